@@ -1,0 +1,50 @@
+-- `books::Book::keeps_rules`: each answer follows from the tests on the way and from what the two loops promise.
+use mathlib.Core.Path.{_≡_}
+use Prim.Native.Nat.{_≤_}
+use native.Mathlib.Omega.{arith}
+use borrow.Author.Needs.{needs}
+use borrow.Author.Tests.{le-leb, lt-leb, not-true, not-false}
+use Rattle.books.proofs.Book.keeps_rules.Statement.{statement}
+use Rattle.books.proofs.Book.keeps_rules.Tie as tie
+
+abbrev start : tie.Else2 → tie.Start
+start c = c .before .before .before
+
+-- past the first two tests there are 1 to 8 lists
+one : (c : tie.Else2) → 1 ≤ start c .args .self .lists
+one c = omega arith
+
+eight : (c : tie.Else2) → start c .args .self .lists ≤ 8
+eight c = omega arith
+
+returns : tie.Need-returns
+returns c = simp (c .if1 .taken)
+
+returns-2 : tie.Need-returns-2
+returns-2 c = simp (le-leb 1 (c .before .before .before .args .self .lists) (omega arith), lt-leb _ _ (c .if2 .taken))
+
+returns-3 : tie.Need-returns-3
+returns-3 c =
+    simp (le-leb _ _ (one (c .before .before)), le-leb _ _ (eight (c .before .before)), ← c .before .shares-fit .ensures, not-true (c .before .shares-fit .result) (c .if3 .taken))
+
+returns-4 : tie.Need-returns-4
+returns-4 c =
+    simp (
+      le-leb _ _ (one (c .before .before .before)),
+      le-leb _ _ (eight (c .before .before .before)),
+      ← c .before .before .shares-fit .ensures,
+      not-false (c .before .before .shares-fit .result) (c .before .if3 .left),
+      c .rest-nothing .ensures,
+    )
+
+pub keeps-rules-spec : {M : Type 1} → statement M
+keeps-rules-spec =
+    tie.close
+    (tie.spec
+    returns
+    returns-2
+    (λ c. search needs)
+    (λ c. search needs)
+    returns-3
+    (λ c. search needs)
+    returns-4)

@@ -1,0 +1,3 @@
+-- Laws about tests and about the book rules, for the crates above to cite.
+pub mod Tests
+pub mod Rules

@@ -1,0 +1,36 @@
+-- The constants that belong to the book, and the all-zero book.
+use mathlib.Core.List.{List}
+use Prim.Native.Nat.{ℕ}
+use lib.ListN.{getD, replicate}
+use Rattle.books.specs.declared.Entry.{Entry}
+use Rattle.books.specs.declared.Book.{Book}
+
+-- 01: "Slot 0 is the null and never holds an element"
+abbrev pub nullSlot : ℕ
+nullSlot = 0
+
+-- 01: "N runs from 2 to 4,096"
+abbrev pub smallestPool : ℕ
+smallestPool = 2
+
+abbrev pub largestPool : ℕ
+largestPool = 4096
+
+-- what the value cell of a free slot holds: 01: "every free slot's value is 0"
+abbrev pub wipeWord : ℕ
+wipeWord = 0
+
+-- 01: "for each of eight entries"
+abbrev pub mostLists : ℕ
+mostLists = 8
+
+-- the entry of no list
+abbrev pub nothing : Entry
+nothing = record { head = 0; tail = 0; share = 0; limit = 0 }
+
+-- list l's entry
+abbrev pub entryAt : List Entry → ℕ → Entry
+entryAt es l = getD es l nothing
+
+abbrev pub zeroBook : Book
+zeroBook = record { lists = 0; entries = replicate mostLists nothing; free = record { head = 0 } }
