@@ -101,7 +101,8 @@ impl Book {
     }
 }
 
-fn wide(x: u16) -> usize
+// A 16-bit number as an index.
+pub fn wide(x: u16) -> usize
     ensures { λ r. ⌜ (r ≡ x) × (r < 65536) ⌝ }
 {
     x as usize

@@ -1,0 +1,98 @@
+-- `lists::push_beside`: what it answers and stores follows from what `take` said and from the test of the end slot.
+use mathlib.Core.Path.{_≡_, sym, ap, _∙_}
+use Prim.Native.Nat.{ℕ}
+use lib.ListN.{length-set}
+use denote.Ref.{now}
+use borrow.Author.Needs.{needs}
+use borrow.Author.Tests.{not-true, not-false}
+use Rattle.slots.specs.declared.Taken.the-variants.{Slot}
+use Rattle.slots.specs.Slot.{InPool}
+use Rattle.slots.specs.Model.{saidBy, takeOf}
+use Rattle.slots.proofs.Laws.{take-slot}
+use Rattle.lists.specs.Model.{pushBesideOf}
+use Rattle.lists.proofs.Beside.{beside-iff}
+use Rattle.lists.proofs.push_beside.Statement.{statement}
+use Rattle.lists.proofs.push_beside.Tie as tie
+
+abbrev start : tie.After-known-told → tie.Start
+start c = c .before .before .before .before .before .before .before .before
+
+abbrev slot : tie.After-known-told → ℕ
+slot c = c .before .slot .given .0 .0
+
+-- the slot that was taken, and that it is one
+taken : (c : tie.After-known-told)
+    → saidBy (start c .args .free) (Slot (slot c) (c .before .slot .given .0 .1 .0)) ≡ takeOf (now (start c .args .links)) (now (start c .args .values)) (start c .args .free)
+taken c = ap (saidBy (start c .args .free)) (sym (c .before .slot .given .1)) ∙ c .before .before .before .take .ensures
+
+inside : (c : tie.After-known-told) → InPool (now (start c .args .links)) (now (start c .args .values)) (slot c)
+inside c = take-slot (now (start c .args .links)) (now (start c .args .values)) (start c .args .free) _ _ (taken c) .1
+
+abbrev told : tie.Else1 → tie.After-known-told
+told c = c .before .before .before .before .before
+
+-- past the test the end slot is one too
+near : (c : tie.Else1) → InPool (now (start (told c) .args .links)) (now (start (told c) .args .values)) (c .before .before .before .before .near-of .result)
+near c = beside-iff _ _ _ (slot (told c)) .0 (sym (c .before .is-beside .ensures) ∙ not-false (c .before .is-beside .result) (c .if1 .left)) .1
+
+returns : tie.Need-returns
+unfolding pushBesideOf
+returns c =
+    simp (
+      c .refused-push .ensures,
+      ← (ap (saidBy (c .before .before .before .before .before .before .before .before .args .free)) (sym (c .before .enum-told .given .1)) ∙ c .before .before .before .take .ensures),
+    )
+
+returns-2 : tie.Need-returns-2
+unfolding pushBesideOf
+returns-2 c =
+    simp (
+      c .refused-push2 .ensures,
+      ← taken (c .before .before .before .before .before .before),
+      ← c .before .before .before .before .before .near-of .ensures,
+      ← c .before .before .is-beside .ensures,
+      not-true (c .before .before .is-beside .result) (c .before .if1 .taken),
+    )
+
+returns-3 : tie.Need-returns-3
+unfolding pushBesideOf
+returns-3 c =
+    simp (
+      c .with-near .ensures,
+      ← taken (c .before .before .before .before .before .before .before),
+      ← c .before .before .before .before .before .before .near-of .ensures,
+      ← c .before .before .before .is-beside .ensures,
+      not-false (c .before .before .before .is-beside .result) (c .before .before .if1 .left),
+    )
+
+pub push-beside-spec : {M : Type 1} → statement M
+push-beside-spec =
+    tie.close
+    (tie.spec
+    (λ c. search needs)
+    (λ c. search needs)
+    (λ c. search needs)
+    (λ c. search needs)
+    (λ c. search needs)
+    (λ c. search needs)
+    returns
+    (λ c. search needs)
+    (λ c. search needs)
+    (λ c. search needs)
+    (λ c. search needs)
+    (λ c. search needs)
+    returns-2
+    (λ c. search needs)
+    (λ c. search needs)
+    (λ c. search needs)
+    (λ c. near (c .before) .hasLink)
+    (λ c. search needs)
+    (λ c. near (c .before) .hasLink)
+    (λ c. search needs)
+    (λ c. simp length-set (inside (told (c .before)) .hasLink))
+    (λ c. search needs)
+    (λ c. inside (told (c .before)) .hasValue)
+    (λ c. search needs)
+    (λ c. search needs)
+    (λ c. search needs)
+    returns-3)

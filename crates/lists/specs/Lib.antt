@@ -1,0 +1,2 @@
+-- What a reader of the list layer believes: what each step gives, and what the laws say of it.
+pub mod Model

@@ -1,0 +1,259 @@
+// Layer 2: upstream's list over a lent pool, as total steps under upstream's names and in its order (000: `DListXor`).
+use books::Book;
+use books::Entry;
+use books::Free;
+use slots::Taken;
+ghost use mathlib.Core.Path.{_≡_};
+ghost use Rattle.lists.specs.Model.{nearOf, withNear, withBoth, isBeside, newOf, refusedPush, pushedWith, pushEmptyOf, pushBesideOf, pushOf, refusedPop, poppedWith, popOf};
+
+// The end of a list at which a step works.
+pub enum End {
+    Front,
+    Back,
+}
+
+// Whether the value was pushed, and the list and the idle chain then.
+pub struct Pushed {
+    pub done: bool,
+    pub entry: Entry,
+    pub free: Free,
+}
+
+// Whether a value was popped, which, and the list and the idle chain then.
+pub struct Popped {
+    pub done: bool,
+    pub value: u64,
+    pub entry: Entry,
+    pub free: Free,
+}
+
+// The empty list.
+pub fn new(share: u16, limit: u16) -> Entry
+    ensures { λ r. ⌜ r ≡ newOf share limit ⌝ }
+{
+    Entry {
+        head: 0,
+        tail: 0,
+        share,
+        limit,
+    }
+}
+
+// The first value of an empty list: its slot has link 0 and is both ends.
+pub fn push_empty_case(
+    links: &mut [u16],
+    values: &mut [u64],
+    list: Entry,
+    free: Free,
+    value: u64,
+) -> Pushed
+    ensures { λ r. ⌜ pushedWith r (now (links .exit)) (now (values .exit)) ≡ pushEmptyOf (now (links .entry)) (now (values .entry)) list free value ⌝ }
+{
+    if list.tail != Book::NULL {
+        return refused_push(list, free);
+    }
+    let Taken::Slot(slot, rest) = slots::take(links, values, free) else {
+        return refused_push(list, free);
+    };
+    let i = slot as usize;
+    links[i] = 0;
+    values[i] = value;
+    Pushed {
+        done: true,
+        entry: with_both(slot, list),
+        free: rest,
+    }
+}
+
+pub fn push_back(
+    links: &mut [u16],
+    values: &mut [u64],
+    list: Entry,
+    free: Free,
+    value: u64,
+) -> Pushed
+    ensures { λ r. ⌜ pushedWith r (now (links .exit)) (now (values .exit)) ≡ pushOf End.Back (now (links .entry)) (now (values .entry)) list free value ⌝ }
+{
+    push(links, values, End::Back, list, free, value)
+}
+
+pub fn pop_back(links: &mut [u16], values: &mut [u64], list: Entry, free: Free) -> Popped
+    ensures { λ r. ⌜ poppedWith r (now (links .exit)) (now (values .exit)) ≡ popOf End.Back (now (links .entry)) (now (values .entry)) list free ⌝ }
+{
+    pop(links, values, End::Back, list, free)
+}
+
+pub fn pop_front(links: &mut [u16], values: &mut [u64], list: Entry, free: Free) -> Popped
+    ensures { λ r. ⌜ poppedWith r (now (links .exit)) (now (values .exit)) ≡ popOf End.Front (now (links .entry)) (now (values .entry)) list free ⌝ }
+{
+    pop(links, values, End::Front, list, free)
+}
+
+pub fn push_front(
+    links: &mut [u16],
+    values: &mut [u64],
+    list: Entry,
+    free: Free,
+    value: u64,
+) -> Pushed
+    ensures { λ r. ⌜ pushedWith r (now (links .exit)) (now (values .exit)) ≡ pushOf End.Front (now (links .entry)) (now (values .entry)) list free value ⌝ }
+{
+    push(links, values, End::Front, list, free, value)
+}
+
+// The slot at an end.
+fn near_of(end: End, list: Entry) -> u16
+    ensures { λ r. ⌜ r ≡ nearOf end list ⌝ }
+{
+    match end {
+        End::Front => list.head,
+        End::Back => list.tail,
+    }
+}
+
+// The list with another slot at an end.
+fn with_near(end: End, slot: u16, list: Entry) -> Entry
+    ensures { λ r. ⌜ r ≡ withNear end slot list ⌝ }
+{
+    match end {
+        End::Front => Entry {
+            head: slot,
+            tail: list.tail,
+            share: list.share,
+            limit: list.limit,
+        },
+        End::Back => Entry {
+            head: list.head,
+            tail: slot,
+            share: list.share,
+            limit: list.limit,
+        },
+    }
+}
+
+// The list with one slot at both ends, or none at both.
+fn with_both(slot: u16, list: Entry) -> Entry
+    ensures { λ r. ⌜ r ≡ withBoth slot list ⌝ }
+{
+    Entry {
+        head: slot,
+        tail: slot,
+        share: list.share,
+        limit: list.limit,
+    }
+}
+
+// Is `near` a slot of the pool other than `slot`?
+fn is_beside(links: &[u16], values: &[u64], near: u16, slot: u16) -> bool
+    ensures { λ r. ⌜ r ≡ isBeside (now (links .entry)) (now (values .entry)) near slot ⌝ }
+{
+    if near == slot {
+        return false;
+    }
+    slots::in_pool(links, values, near)
+}
+
+fn refused_push(list: Entry, free: Free) -> Pushed
+    ensures { λ r. ⌜ r ≡ refusedPush list free ⌝ }
+{
+    Pushed {
+        done: false,
+        entry: list,
+        free,
+    }
+}
+
+fn refused_pop(list: Entry, free: Free) -> Popped
+    ensures { λ r. ⌜ r ≡ refusedPop list free ⌝ }
+{
+    Popped {
+        done: false,
+        value: 0,
+        entry: list,
+        free,
+    }
+}
+
+// A value at an end. Both ends test the tail alone.
+fn push(
+    links: &mut [u16],
+    values: &mut [u64],
+    end: End,
+    list: Entry,
+    free: Free,
+    value: u64,
+) -> Pushed
+    ensures { λ r. ⌜ pushedWith r (now (links .exit)) (now (values .exit)) ≡ pushOf end (now (links .entry)) (now (values .entry)) list free value ⌝ }
+{
+    if list.tail == Book::NULL {
+        push_empty_case(links, values, list, free, value)
+    } else {
+        push_beside(links, values, end, list, free, value)
+    }
+}
+
+// A value beside the slot at an end of a list that has one.
+fn push_beside(
+    links: &mut [u16],
+    values: &mut [u64],
+    end: End,
+    list: Entry,
+    free: Free,
+    value: u64,
+) -> Pushed
+    ensures { λ r. ⌜ pushedWith r (now (links .exit)) (now (values .exit)) ≡ pushBesideOf end (now (links .entry)) (now (values .entry)) list free value ⌝ }
+{
+    let Taken::Slot(slot, rest) = slots::take(links, values, free) else {
+        return refused_push(list, free);
+    };
+    let near = near_of(end, list);
+    if !is_beside(links, values, near, slot) {
+        return refused_push(list, free);
+    }
+    let i = slot as usize;
+    let j = near as usize;
+    links[j] = links[j] ^ slot;
+    links[i] = near;
+    values[i] = value;
+    Pushed {
+        done: true,
+        entry: with_near(end, slot, list),
+        free: rest,
+    }
+}
+
+// The slot at an end leaves the list. All tests stand before the first store.
+fn pop(links: &mut [u16], values: &mut [u64], end: End, list: Entry, free: Free) -> Popped
+    ensures { λ r. ⌜ poppedWith r (now (links .exit)) (now (values .exit)) ≡ popOf end (now (links .entry)) (now (values .entry)) list free ⌝ }
+{
+    let slot = near_of(end, list);
+    if !slots::in_pool(links, values, slot) {
+        return refused_pop(list, free);
+    }
+    let i = slot as usize;
+    let near = links[i];
+    let value = values[i];
+    if near == Book::NULL {
+        let gone = slots::release(links, values, slot, free);
+        let rest = gone.free;
+        return Popped {
+            done: gone.done,
+            value,
+            entry: with_both(0, list),
+            free: rest,
+        };
+    }
+    if !is_beside(links, values, near, slot) {
+        return refused_pop(list, free);
+    }
+    let gone = slots::release(links, values, slot, free);
+    let rest = gone.free;
+    let j = books::wide(near);
+    links[j] = links[j] ^ slot;
+    Popped {
+        done: gone.done,
+        value,
+        entry: with_near(end, near, list),
+        free: rest,
+    }
+}

@@ -1,0 +1,3 @@
+-- Laws of the slot layer, for the crates above to cite.
+pub mod Slot
+pub mod Laws
