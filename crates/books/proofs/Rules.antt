@@ -1,7 +1,7 @@
 -- The test of the book rules is true exactly where the rules hold, and how a loop takes the entries one by one.
 use mathlib.Core.Path.{_≡_, refl, sym, ap, _∙_}
 use mathlib.Core.Logic.{_↔_}
-use mathlib.Core.Bool.{Bool, true, false, _&&_}
+use mathlib.Core.Bool.{true, _&&_}
 use mathlib.Core.List.{List, [], _∷_}
 use Prim.Native.Nat.{ℕ, zero, suc, _+_, _-_, _≤_, _<_, suc-le-suc}
 use native.Mathlib.Nat.{le-of-suc-le-suc, not-suc-le-zero, zero-lt-suc}
@@ -9,11 +9,10 @@ use native.Mathlib.Numerals.{add-one}
 use native.Mathlib.Decide.{decLt}
 use native.Mathlib.Omega.{arith}
 use lib.Dec.{leb, ltb, eqb}
-use lib.ListN.{length, getD, take, drop, length-take, drop-of-length-le, List·getD-eq-default}
+use lib.ListN.{length, take, drop, length-take, drop-of-length-le, List·getD-eq-default}
 use lib.Seq.{drop-cons, getD-take, getD-drop}
-use borrow.Author.Tests.{leb-true, le-leb, ltb-true, lt-ltb, eqb-true, eq-eqb}
+use borrow.Author.Tests.{leb-true, le-leb, ltb-true, lt-ltb, eqb-true}
 use Rattle.books.specs.declared.Entry.{Entry}
-use Rattle.books.specs.declared.Book.{Book}
 use Rattle.books.specs.Book.{smallestPool, largestPool, nothing, entryAt}
 use Rattle.books.specs.Rules.{Size, sharesOf, Rules}
 use Rattle.books.specs.Test.{sizeFits, isFair, isNothing, gather, allNothing, rulesHold}
@@ -42,7 +41,7 @@ nothing-end es k h = rw (drop-of-length-le es h)
 
 pub size-fits : (size : ℕ) → sizeFits size ≡ true ↔ Size size
 size-fits size = (
-  λ h. let p = and-both _ (leb size largestPool) h in record { least = leb-true smallestPool size (p .0); most = leb-true size largestPool (p .1) },
+  λ h. let p = and-both _ _ h in record { least = leb-true _ _ (p .0); most = leb-true _ _ (p .1) },
   λ s. both-and _ _ (le-leb smallestPool size (s .least)) (le-leb size largestPool (s .most)),
 )
 
@@ -52,7 +51,7 @@ Fair size e = (e .share ≤ e .limit) × (e .limit < size)
 fair-iff : (size : ℕ) (e : Entry) → isFair size e ≡ true ↔ Fair size e
 unfolding isFair
 fair-iff size e = (
-  λ h. let p = and-both (leb (e .share) (e .limit)) (ltb (e .limit) size) h in (leb-true _ _ (p .0), ltb-true _ _ (p .1)),
+  λ h. let p = and-both _ _ h in (leb-true _ _ (p .0), ltb-true _ _ (p .1)),
   λ f. both-and _ _ (le-leb _ _ (f .0)) (lt-ltb _ _ (f .1)),
 )
 

@@ -1,6 +1,6 @@
 -- Two tests in one, and case analysis over a choice by a test.
-use mathlib.Core.Path.{_≡_, refl, sym}
-use mathlib.Core.Bool.{Bool, true, false, cond, _&&_}
+use mathlib.Core.Path.{_≡_, refl}
+use mathlib.Core.Bool.{Bool, true, false, cond, not, _&&_}
 use Prim.Native.Nat.{ℕ}
 use native.Mathlib.Omega.{arith}
 
@@ -11,6 +11,9 @@ and-both false b h = absurd (let z : _≡_ {A = ℕ} 0 1 = cc in omega arith)
 pub both-and : (a b : Bool) → a ≡ true → b ≡ true → a && b ≡ true
 both-and true b p q = q
 both-and false b p q = p
+
+pub not-is : {b : Bool} → b ≡ false → not b ≡ true
+not-is e = rw e
 
 pub not-both : {A : Type 0} (b : Bool) → b ≡ true → b ≡ false → A
 not-both b p q = absurd (let z : _≡_ {A = ℕ} 0 1 = cc in omega arith)

@@ -1,5 +1,5 @@
 -- The constants that belong to the book, and the all-zero book.
-use mathlib.Core.List.{List}
+use mathlib.Core.List.{List, [], _∷_, _++_}
 use Prim.Native.Nat.{ℕ}
 use lib.ListN.{getD, replicate}
 use Rattle.books.specs.declared.Entry.{Entry}
@@ -34,3 +34,11 @@ entryAt es l = getD es l nothing
 
 abbrev pub zeroBook : Book
 zeroBook = record { lists = 0; entries = replicate mostLists nothing; free = record { head = 0 } }
+
+-- the book as the words of its record, in their order
+abbrev pub entryWords : List Entry → List ℕ
+entryWords [] = []
+entryWords (e ∷ es) = e .head ∷ e .tail ∷ e .share ∷ e .limit ∷ entryWords es
+
+abbrev pub wordsOf : Book → List ℕ
+wordsOf b = b .lists ∷ entryWords (b .entries) ++ b .free .head ∷ []

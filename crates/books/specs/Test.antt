@@ -1,5 +1,5 @@
 -- The book rules as a test that runs. What it means is `Rules`; the law `rules-hold` says that it is true exactly there.
-use mathlib.Core.Bool.{Bool, true, false, _&&_}
+use mathlib.Core.Bool.{Bool, true, _&&_}
 use mathlib.Core.List.{List, [], _∷_}
 use Prim.Native.Nat.{ℕ, _+_}
 use lib.Dec.{leb, ltb, eqb}

@@ -7,9 +7,9 @@ use native.Mathlib.Nat.{le-of-suc-le-suc, not-suc-le-zero, zero-lt-suc}
 use native.Mathlib.Omega.{arith}
 use lib.Bits.{bitXor, xor-comm}
 use lib.ListN.{length, getD}
-use Rattle.chains.specs.Count.{hit, count}
+use Rattle.chains.specs.Count.{count}
 use Rattle.chains.specs.Chain.{cell, firstOr, lastOr, prevOf, nextOf, Linked, LiveChain, after, IdleChain}
-use Rattle.chains.proofs.Count.{hit-same, count-apart, count-first}
+use Rattle.chains.proofs.Count.{count-apart, count-first}
 use Rattle.chains.proofs.Xor.{xor-cancel-out}
 
 -- ---- the ends of a sequence

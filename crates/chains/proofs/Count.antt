@@ -34,3 +34,7 @@ count-apart xs {y} {z} h k e = omega (arith, rw e at h)
 -- the first slot is in the sequence
 pub count-first : (x : ℕ) (xs : List ℕ) → 0 < count x (x ∷ xs)
 count-first x xs = omega (arith, hit-same x)
+
+-- it does not matter to a count where a slot stands
+pub count-moved : (y s : ℕ) (xs ys : List ℕ) → count y (xs ++ s ∷ ys) ≡ count y (s ∷ xs ++ ys)
+count-moved y s xs ys = omega (arith, count-append y xs (s ∷ ys), count-append y xs ys)

@@ -1,8 +1,8 @@
 -- A slot comes to the front of a chain or leaves it, and what the ends of a sequence without the null slot say of it.
-use mathlib.Core.Path.{_≡_, refl, sym, ap, _∙_}
+use mathlib.Core.Path.{_≡_, sym, ap, _∙_}
 use mathlib.Core.Logic.{_≢_}
-use mathlib.Core.List.{List, [], _∷_, _++_}
-use Prim.Native.Nat.{ℕ, zero, suc, _+_, _≤_, _<_}
+use mathlib.Core.List.{List, [], _∷_}
+use Prim.Native.Nat.{ℕ, zero, suc, _≤_, _<_}
 use native.Mathlib.Nat.{not-suc-le-zero, zero-lt-suc}
 use native.Mathlib.Omega.{arith}
 use lib.Bits.{bitXor, xor-comm}
@@ -10,7 +10,7 @@ use Rattle.chains.specs.Count.{hit, count}
 use Rattle.chains.specs.Chain.{firstOr, lastOr, after}
 use Rattle.chains.proofs.Count.{hit-same, count-apart, count-first}
 use Rattle.chains.proofs.Xor.{xor-cancel-out}
-use Rattle.chains.proofs.Chain.{Chain, chain-frame, last-append}
+use Rattle.chains.proofs.Chain.{Chain, chain-frame}
 
 -- ---- the ends
 
@@ -22,6 +22,11 @@ first-in (x ∷ xs) h = count-first x xs
 pub last-in : (p : ℕ) (xs : List ℕ) → 0 < count (lastOr p xs) (p ∷ xs)
 last-in p [] = count-first p []
 last-in p (x ∷ xs) = omega (arith, last-in x xs)
+
+-- a slot that is not in a sequence is not its first
+pub first-apart : (xs : List ℕ) (y : ℕ) → 0 < y → count y xs ≡ 0 → y ≢ firstOr 0 xs
+first-apart [] y p z e = omega arith
+first-apart (x ∷ xs) y p z e = omega (arith, ap (hit y) (sym e), hit-same y)
 
 -- slots are not null
 pub first-not-null : (x : ℕ) (xs : List ℕ) → count 0 (x ∷ xs) ≡ 0 → 0 < x

@@ -1,13 +1,12 @@
 -- The test `isBeside` is true exactly at a slot of the pool other than the given one.
 use mathlib.Core.Path.{_≡_}
 use mathlib.Core.Logic.{_↔_, _≢_}
-use mathlib.Core.Bool.{true, false, not}
+use mathlib.Core.Bool.{true}
 use mathlib.Core.List.{List}
 use Prim.Native.Nat.{ℕ}
-use lib.Dec.{eqb}
 use borrow.Author.Tests.{eqb-false, ne-eqb, not-true}
-use Rattle.books.proofs.Tests.{and-both, both-and}
-use Rattle.slots.specs.Slot.{InPool, inPool}
+use Rattle.books.proofs.Tests.{and-both, both-and, not-is}
+use Rattle.slots.specs.Slot.{InPool}
 use Rattle.slots.proofs.Slot.{in-pool}
 use Rattle.lists.specs.Model.{isBeside}
 
@@ -15,10 +14,6 @@ module _ (links values : List ℕ) (near slot : ℕ) where
   pub beside-iff : isBeside links values near slot ≡ true ↔ (near ≢ slot) × InPool links values near
   unfolding isBeside
   beside-iff = (
-    λ h. let p = and-both (not (eqb near slot)) (inPool links values near) h in
-        (eqb-false near slot (not-true (eqb near slot) (p .0)), in-pool links values near .0 (p .1)),
-    λ q. both-and _ _ (turned (ne-eqb near slot (q .0))) (in-pool links values near .1 (q .1)),
+    λ h. let p = and-both _ _ h in (eqb-false near slot (not-true _ (p .0)), in-pool links values near .0 (p .1)),
+    λ q. both-and _ _ (not-is (ne-eqb near slot (q .0))) (in-pool links values near .1 (q .1)),
   )
-    where
-      turned : eqb near slot ≡ false → not (eqb near slot) ≡ true
-      turned e = rw e

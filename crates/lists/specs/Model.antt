@@ -10,7 +10,7 @@ use Rattle.books.specs.declared.Entry.{Entry}
 use Rattle.books.specs.Book.{nullSlot}
 use Rattle.chains.specs.Chain.{cell}
 use Rattle.slots.specs.Slot.{inPool}
-use Rattle.slots.specs.Model.{Said, takeOf, ReleasedWith, releasedWith, releaseOf}
+use Rattle.slots.specs.Model.{takeOf, ReleasedWith, releasedWith, releaseOf}
 use Rattle.lists.specs.declared.End.{End}
 use Rattle.lists.specs.declared.End.the-variants.{Front, Back}
 use Rattle.lists.specs.declared.Pushed.{Pushed}
@@ -55,30 +55,33 @@ abbrev pub pushedWith : Pushed → List ℕ → List ℕ → PushedWith
 pushedWith answer links values = record { answer = answer; links = links; values = values }
 
 module _ (links values : List ℕ) (list : Entry) (free : Free) (value : ℕ) where
-  -- 01: "the first slot has link 0"
-  abbrev pub alone : Said → PushedWith
-  alone said =
-      cond (said .done)
-      (pushedWith (record { done = true; entry = withBoth (said .slot) list; free = said .free }) (set links (said .slot) nullSlot) (set values (said .slot) value))
-      (pushedWith (refusedPush list free) links values)
+  -- `slot` is the list's only one, and `rest` is idle. 01: "the first slot has link 0"
+  abbrev pub alone : ℕ → Free → PushedWith
+  alone slot rest = pushedWith (record { done = true; entry = withBoth slot list; free = rest }) (set links slot nullSlot) (set values slot value)
 
   -- 000's push_empty_case: only an empty list has a first value
   unfoldable pub pushEmptyOf : PushedWith
-  pushEmptyOf = cond (eqb (list .tail) nullSlot) (alone (takeOf links values free)) (pushedWith (refusedPush list free) links values)
-
-module _ (end : End) (links values : List ℕ) (list : Entry) (free : Free) (value : ℕ) where
-  -- the old end slot's link is XORed with the new slot, whose link is the old end slot
-  abbrev pub beside : ℕ → Said → PushedWith
-  beside near said =
-      cond (said .done)
-      (cond (isBeside links values near (said .slot))
-      (pushedWith (record { done = true; entry = withNear end (said .slot) list; free = said .free })
-      (set (set links near (bitXor (cell links near) (said .slot))) (said .slot) near) (set values (said .slot) value))
-      (pushedWith (refusedPush list free) links values))
+  pushEmptyOf =
+      let said = takeOf links values free in
+      cond (eqb (list .tail) nullSlot)
+      (cond (said .done) (alone (said .slot) (said .free)) (pushedWith (refusedPush list free) links values))
       (pushedWith (refusedPush list free) links values)
 
+module _ (end : End) (links values : List ℕ) (list : Entry) (free : Free) (value : ℕ) where
+  -- `slot` stands at the end, where `near` stood: the link of `near` is XORed with `slot`, and the link of `slot` is `near`
+  abbrev pub beside : ℕ → ℕ → Free → PushedWith
+  beside near slot rest =
+      pushedWith (record { done = true; entry = withNear end slot list; free = rest })
+      (set (set links near (bitXor (cell links near) slot)) slot near)
+      (set values slot value)
+
   unfoldable pub pushBesideOf : PushedWith
-  pushBesideOf = beside (nearOf end list) (takeOf links values free)
+  pushBesideOf =
+      let said = takeOf links values free in
+      let near = nearOf end list in
+      cond (said .done)
+      (cond (isBeside links values near (said .slot)) (beside near (said .slot) (said .free)) (pushedWith (refusedPush list free) links values))
+      (pushedWith (refusedPush list free) links values)
 
   -- 01: "both pushes test the tail only"
   unfoldable pub pushOf : PushedWith
@@ -107,16 +110,19 @@ abbrev pub unlinked : ℕ → ℕ → ReleasedWith → ReleasedWith
 unlinked near slot gone = releasedWith (gone .answer) (set (gone .links) near (bitXor (cell (gone .links) near) slot)) (gone .values)
 
 module _ (end : End) (links values : List ℕ) (list : Entry) (free : Free) where
-  -- `slot` leaves, and `near` is its link. 01: "a pop that reads link 0 sets head and tail to 0"
-  abbrev pub leaves : ℕ → ℕ → PoppedWith
-  leaves slot near =
-      cond (inPool links values slot)
-      (cond (eqb near nullSlot)
-      (left (cell values slot) (withBoth nullSlot list) (releaseOf links values slot free))
-      (cond (isBeside links values near slot)
-      (left (cell values slot) (withNear end near list) (unlinked near slot (releaseOf links values slot free)))
-      (poppedWith (refusedPop list free) links values)))
-      (poppedWith (refusedPop list free) links values)
+  -- `slot`, the only one of its list, leaves. 01: "a pop that reads link 0 sets head and tail to 0"
+  abbrev pub lastLeaves : ℕ → PoppedWith
+  lastLeaves slot = left (cell values slot) (withBoth nullSlot list) (releaseOf links values slot free)
+
+  -- `slot` leaves, and `near` stands at the end then
+  abbrev pub endLeaves : ℕ → ℕ → PoppedWith
+  endLeaves slot near = left (cell values slot) (withNear end near list) (unlinked near slot (releaseOf links values slot free))
 
   unfoldable pub popOf : PoppedWith
-  popOf = leaves (nearOf end list) (cell links (nearOf end list))
+  popOf =
+      let slot = nearOf end list in
+      let near = cell links slot in
+      cond (inPool links values slot)
+      (cond (eqb near nullSlot) (lastLeaves slot)
+      (cond (isBeside links values near slot) (endLeaves slot near) (poppedWith (refusedPop list free) links values)))
+      (poppedWith (refusedPop list free) links values)

@@ -132,12 +132,12 @@ fn with_near(end: End, slot: u16, list: Entry) -> Entry
 }
 
 // The list with one slot at both ends, or none at both.
-fn with_both(slot: u16, list: Entry) -> Entry
-    ensures { λ r. ⌜ r ≡ withBoth slot list ⌝ }
+fn with_both(both: u16, list: Entry) -> Entry
+    ensures { λ r. ⌜ r ≡ withBoth both list ⌝ }
 {
     Entry {
-        head: slot,
-        tail: slot,
+        head: both,
+        tail: both,
         share: list.share,
         limit: list.limit,
     }
@@ -226,32 +226,32 @@ fn push_beside(
 fn pop(links: &mut [u16], values: &mut [u64], end: End, list: Entry, free: Free) -> Popped
     ensures { λ r. ⌜ poppedWith r (now (links .exit)) (now (values .exit)) ≡ popOf end (now (links .entry)) (now (values .entry)) list free ⌝ }
 {
-    let slot = near_of(end, list);
-    if !slots::in_pool(links, values, slot) {
+    let old = near_of(end, list);
+    if !slots::in_pool(links, values, old) {
         return refused_pop(list, free);
     }
-    let i = slot as usize;
+    let i = old as usize;
     let near = links[i];
     let value = values[i];
     if near == Book::NULL {
-        let gone = slots::release(links, values, slot, free);
-        let rest = gone.free;
+        let freed = slots::release(links, values, old, free);
+        let rest = freed.free;
         return Popped {
-            done: gone.done,
+            done: freed.done,
             value,
             entry: with_both(0, list),
             free: rest,
         };
     }
-    if !is_beside(links, values, near, slot) {
+    if !is_beside(links, values, near, old) {
         return refused_pop(list, free);
     }
-    let gone = slots::release(links, values, slot, free);
-    let rest = gone.free;
+    let freed = slots::release(links, values, old, free);
+    let rest = freed.free;
     let j = books::wide(near);
-    links[j] = links[j] ^ slot;
+    links[j] = links[j] ^ old;
     Popped {
-        done: gone.done,
+        done: freed.done,
         value,
         entry: with_near(end, near, list),
         free: rest,

@@ -1,14 +1,12 @@
 -- When a slot is taken or released, exactly, and what the idle chain is then.
 use mathlib.Core.Path.{_≡_, refl, sym, ap, _∙_}
-use mathlib.Core.Logic.{_↔_, _≢_}
-use mathlib.Core.Bool.{Bool, true, false, cond}
-use mathlib.Core.List.{List, [], _∷_}
-use Prim.Native.Nat.{ℕ, _<_}
-use native.Mathlib.Omega.{arith}
-use lib.ListN.{length, set, length-set}
+use mathlib.Core.Logic.{_↔_}
+use mathlib.Core.Bool.{Bool, true, false}
+use mathlib.Core.List.{List, _∷_}
+use Prim.Native.Nat.{ℕ}
+use lib.ListN.{length-set}
 use lib.Seq.{getD-set-same, getD-set-other}
 use Rattle.books.specs.declared.Free.{Free}
-use Rattle.books.specs.Book.{wipeWord}
 use Rattle.books.proofs.Tests.{not-both}
 use Rattle.chains.specs.Count.{count}
 use Rattle.chains.specs.Chain.{cell, firstOr, after, IdleChain}
@@ -26,11 +24,11 @@ use Rattle.slots.proofs.Slot.{in-pool, not-in-pool}
 module _ (links values : List ℕ) (free : Free) where
   take-does : inPool links values (free .head) ≡ takeOf links values free .done
   unfolding takeOf
-  take-does = go (inPool links values (free .head))
+  take-does = go (inPool links values (free .head)) refl
     where
-      go : (b : Bool) → b ≡ cond b (record { done = true; slot = free .head; free = record { head = cell links (free .head) } }) (saidBy free Nothing) .done
-      go true = refl
-      go false = refl
+      go : (b : Bool) → inPool links values (free .head) ≡ b → inPool links values (free .head) ≡ takeOf links values free .done
+      go true e = rw e
+      go false e = rw e
 
   -- a slot is taken exactly where the free head is one
   pub take-exactly : takeOf links values free .done ≡ true ↔ InPool links values (free .head)
@@ -65,11 +63,9 @@ module _ (links values : List ℕ) (slot : ℕ) (free : Free) where
   unfolding releaseOf
   release-refused n = go (inPool links values slot) refl
     where
-      go : (b : Bool) → inPool links values slot ≡ b
-          → cond b (releasedWith (record { done = true; free = record { head = slot } }) (set links slot (free .head)) (set values slot wipeWord)) (releasedWith (record { done = false; free = free }) links values)
-          ≡ releasedWith (record { done = false; free = free }) links values
+      go : (b : Bool) → inPool links values slot ≡ b → releaseOf links values slot free ≡ releasedWith (record { done = false; free = free }) links values
       go true e = absurd (n (in-pool links values slot .0 e))
-      go false e = refl
+      go false e = rw e
 
   pub release-wipes : InPool links values slot → Wipes links values slot free (releaseOf links values slot free)
   unfolding releaseOf
@@ -78,12 +74,12 @@ module _ (links values : List ℕ) (slot : ℕ) (free : Free) where
       (record {
         done = refl;
         head = refl;
-        link = getD-set-same links slot (free .head) 0 (p .hasLink);
-        wiped = getD-set-same values slot wipeWord 0 (p .hasValue);
-        otherLinks = λ y d. getD-set-other links slot y (free .head) 0 d;
-        otherValues = λ y d. getD-set-other values slot y wipeWord 0 d;
-        sameLinks = length-set links slot (free .head);
-        sameValues = length-set values slot wipeWord;
+        link = let b = p .hasLink in simp getD-set-same;
+        wiped = let b = p .hasValue in simp getD-set-same;
+        otherLinks = λ y d. simp getD-set-other;
+        otherValues = λ y d. simp getD-set-other;
+        sameLinks = simp length-set;
+        sameValues = simp length-set;
       })
 
   -- a slot is released exactly where it is one

@@ -1,5 +1,5 @@
 -- `books::shares_fit`: at each turn the sum so far and the entries from k on give what all of them give.
-use mathlib.Core.Path.{_≡_, sym, ap, _∙_}
+use mathlib.Core.Path.{_≡_, sym, _∙_}
 use mathlib.Core.Bool.{_&&_}
 use mathlib.Core.List.{List}
 use Prim.Native.Nat.{_+_, _*_, _-_, _<_, _≤_}

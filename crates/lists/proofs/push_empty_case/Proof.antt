@@ -3,7 +3,7 @@ use mathlib.Core.Path.{_≡_, sym, ap, _∙_}
 use denote.Ref.{now}
 use borrow.Author.Needs.{needs}
 use borrow.Author.Tests.{eq-eqb, ne-eqb}
-use Rattle.slots.specs.declared.Taken.the-variants.{Slot, Nothing}
+use Rattle.slots.specs.declared.Taken.the-variants.{Slot}
 use Rattle.slots.specs.Slot.{InPool}
 use Rattle.slots.specs.Model.{saidBy, takeOf}
 use Rattle.slots.proofs.Laws.{take-slot}

@@ -1,5 +1,5 @@
 -- `slots::release`: what it answers and stores follows from the test of the slot.
-use mathlib.Core.Path.{_≡_, sym, _∙_}
+use mathlib.Core.Path.{sym, _∙_}
 use denote.Ref.{now}
 use borrow.Author.Needs.{needs}
 use Rattle.slots.specs.Slot.{InPool}

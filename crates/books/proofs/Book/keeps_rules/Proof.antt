@@ -1,5 +1,4 @@
 -- `books::Book::keeps_rules`: each answer follows from the tests on the way and from what the two loops promise.
-use mathlib.Core.Path.{_≡_}
 use Prim.Native.Nat.{_≤_}
 use native.Mathlib.Omega.{arith}
 use borrow.Author.Needs.{needs}

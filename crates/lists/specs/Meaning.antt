@@ -1,0 +1,94 @@
+-- What the laws say of a push and a pop: 01's, 02's and 000's words, with no model in them.
+use mathlib.Core.Path.{_≡_}
+use mathlib.Core.Logic.{_≢_}
+use mathlib.Core.Bool.{true, cond}
+use mathlib.Core.List.{List, [], _∷_, _++_, map}
+use Prim.Native.Nat.{ℕ, _≤_, _<_}
+use lib.Dec.{eqb}
+use lib.ListN.{length}
+use Rattle.books.specs.declared.Free.{Free}
+use Rattle.books.specs.declared.Entry.{Entry}
+use Rattle.books.specs.Book.{nullSlot, wipeWord}
+use Rattle.chains.specs.Count.{count}
+use Rattle.chains.specs.Chain.{cell, firstOr, lastOr, LiveChain, IdleChain}
+use Rattle.slots.specs.Slot.{InPool}
+use Rattle.lists.specs.declared.End.{End}
+use Rattle.lists.specs.declared.End.the-variants.{Front, Back}
+use Rattle.lists.specs.Model.{nearOf, PushedWith, PoppedWith}
+
+-- ---- when a step is done
+
+-- each of them is a slot from 1 to N-1, and no two are the same
+pub record Apart (links values ys : List ℕ) : Type 0 where
+  pub slots : (y : ℕ) → 0 < count y ys → InPool links values y
+  pub once : (y : ℕ) → count y ys ≤ 1
+
+-- a slot, or no slot where the number that leads to it is null
+abbrev pub unlessNull : ℕ → ℕ → List ℕ
+unlessNull lead slot = cond (eqb lead nullSlot) [] (slot ∷ [])
+
+-- 02 d): the slots "whose cells it would read or write": the free head and, where the tail says that the list has one, the end slot
+abbrev pub touchedByPush : End → Entry → Free → List ℕ
+touchedByPush end list free = free .head ∷ unlessNull (list .tail) (nearOf end list)
+
+-- the slot that leaves and its neighbour. 02 d): "A link that is only copied is not such a slot, nor is a neighbour link of 0 in a pop"
+abbrev pub touchedByPop : End → List ℕ → Entry → List ℕ
+touchedByPop end links list = nearOf end list ∷ unlessNull (cell links (nearOf end list)) (cell links (nearOf end list))
+
+-- ---- what a done step leaves
+
+-- a slot, or a value, at an end of a sequence
+abbrev pub joined : End → ℕ → List ℕ → List ℕ
+joined Front x xs = x ∷ xs
+joined Back x xs = xs ++ x ∷ []
+
+-- the values that the slots of a sequence hold (000: view)
+abbrev pub contents : List ℕ → List ℕ → List ℕ
+contents values xs = map (cell values) xs
+
+-- the cells hold the list `xs` and the idle chain `fs`
+pub record Held (links values : List ℕ) (list : Entry) (free : Free) (xs fs : List ℕ) : Type 0 where
+  pub apart : Apart links values (xs ++ fs)
+  -- 01: "each list's head and tail are the first and last slot of its sequence, both 0 when it is empty"
+  pub head : list .head ≡ firstOr 0 xs
+  pub tail : list .tail ≡ lastOr 0 xs
+  pub live : LiveChain links xs
+  -- 01: "the free head is the first free slot or 0"
+  pub freeHead : free .head ≡ firstOr 0 fs
+  pub idle : IdleChain links fs
+
+-- slot s left the idle chain for an end of the list `xs`, with the value
+pub record Joins (end : End) (s value : ℕ) (values xs fs : List ℕ) (r : PushedWith) : Type 0 where
+  pub done : r .answer .done ≡ true
+  pub held : Held (r .links) (r .values) (r .answer .entry) (r .answer .free) (joined end s xs) fs
+  pub contents : contents (r .values) (joined end s xs) ≡ joined end value (contents values xs)
+
+-- slot s left the list for the front of the idle chain, wiped, and its value was handed out
+pub record Leaves (end : End) (s : ℕ) (values xs fs : List ℕ) (r : PoppedWith) : Type 0 where
+  pub done : r .answer .done ≡ true
+  pub held : Held (r .links) (r .values) (r .answer .entry) (r .answer .free) xs (s ∷ fs)
+  pub contents : joined end (r .answer .value) (contents (r .values) xs) ≡ contents values (joined end s xs)
+  pub wiped : cell (r .values) s ≡ wipeWord
+
+-- ---- what a step leaves alone, on any cells
+
+-- 01: "Only the new slot, the old end slot and, in the book, that list's ends and the free head change"
+pub record PushKeeps (end : End) (links values : List ℕ) (list : Entry) (free : Free) (value : ℕ) (r : PushedWith) : Type 0 where
+  pub share : r .answer .entry .share ≡ list .share
+  pub limit : r .answer .entry .limit ≡ list .limit
+  pub stored : r .answer .done ≡ true → cell (r .values) (free .head) ≡ value
+  pub otherLinks : (y : ℕ) → y ≢ free .head → y ≢ nearOf end list → cell (r .links) y ≡ cell links y
+  pub otherValues : (y : ℕ) → y ≢ free .head → cell (r .values) y ≡ cell values y
+  pub sameLinks : length (r .links) ≡ length links
+  pub sameValues : length (r .values) ≡ length values
+
+-- 01: "Only it, its neighbour and, in the book, that list's ends and the free head change"
+pub record PopKeeps (end : End) (links values : List ℕ) (list : Entry) (free : Free) (r : PoppedWith) : Type 0 where
+  pub share : r .answer .entry .share ≡ list .share
+  pub limit : r .answer .entry .limit ≡ list .limit
+  pub value : r .answer .done ≡ true → r .answer .value ≡ cell values (nearOf end list)
+  pub wiped : r .answer .done ≡ true → cell (r .values) (nearOf end list) ≡ wipeWord
+  pub otherLinks : (y : ℕ) → y ≢ nearOf end list → y ≢ cell links (nearOf end list) → cell (r .links) y ≡ cell links y
+  pub otherValues : (y : ℕ) → y ≢ nearOf end list → cell (r .values) y ≡ cell values y
+  pub sameLinks : length (r .links) ≡ length links
+  pub sameValues : length (r .values) ≡ length values
