@@ -1,4 +1,4 @@
 -- Laws about tests and about the book rules, for the crates above to cite.
 pub mod Tests
 pub mod Rules
-pub mod Zero
+pub mod Numbers

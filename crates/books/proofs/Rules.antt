@@ -13,9 +13,10 @@ use lib.ListN.{length, take, drop, length-take, drop-of-length-le, List·getD-eq
 use lib.Seq.{drop-cons, getD-take, getD-drop}
 use borrow.Author.Tests.{leb-true, le-leb, ltb-true, lt-ltb, eqb-true}
 use Rattle.books.specs.declared.Entry.{Entry}
-use Rattle.books.specs.Book.{smallestPool, largestPool, nothing, entryAt}
-use Rattle.books.specs.Rules.{Size, sharesOf, Rules}
-use Rattle.books.specs.Test.{sizeFits, isFair, isNothing, gather, allNothing, rulesHold}
+use Rattle.books.specs.declared.Book.{Book}
+use Rattle.books.specs.Book.{mostLists, smallestPool, largestPool, zeroEntry, entryAt}
+use Rattle.books.specs.Rules.{Size, sharesOf, Rules, BookRules}
+use Rattle.books.specs.Test.{sizeFits, isFair, isZero, gather, allZero, rulesHold, keepsRules}
 use Rattle.books.proofs.Tests.{and-both, both-and}
 
 -- ---- one entry at a time
@@ -23,19 +24,19 @@ use Rattle.books.proofs.Tests.{and-both, both-and}
 pub gather-at : (size : ℕ) (es : List Entry) (k sum : ℕ) → k < length es
     → gather size (drop k es) sum ≡ isFair size (entryAt es k) && gather size (drop (k + 1) es) (sum + entryAt es k .share)
 unfolding gather
-gather-at size es k sum h = rw (drop-cons es k nothing h, add-one)
+gather-at size es k sum h = rw (drop-cons es k zeroEntry h, add-one)
 
 pub gather-end : (size : ℕ) (es : List Entry) (k sum : ℕ) → length es ≤ k → gather size (drop k es) sum ≡ ltb sum size
 unfolding gather
 gather-end size es k sum h = rw (drop-of-length-le es h)
 
-pub nothing-at : (es : List Entry) (k : ℕ) → k < length es → allNothing (drop k es) ≡ isNothing (entryAt es k) && allNothing (drop (k + 1) es)
-unfolding allNothing
-nothing-at es k h = rw (drop-cons es k nothing h, add-one)
+pub zero-at : (es : List Entry) (k : ℕ) → k < length es → allZero (drop k es) ≡ isZero (entryAt es k) && allZero (drop (k + 1) es)
+unfolding allZero
+zero-at es k h = rw (drop-cons es k zeroEntry h, add-one)
 
-pub nothing-end : (es : List Entry) (k : ℕ) → length es ≤ k → allNothing (drop k es) ≡ true
-unfolding allNothing
-nothing-end es k h = rw (drop-of-length-le es h)
+pub zero-end : (es : List Entry) (k : ℕ) → length es ≤ k → allZero (drop k es) ≡ true
+unfolding allZero
+zero-end es k h = rw (drop-of-length-le es h)
 
 -- ---- what the tests mean
 
@@ -73,27 +74,27 @@ fair-all size [] sum f h = lt-ltb sum size (omega arith)
 fair-all size (e ∷ es) sum f h =
     both-and _ _ (fair-iff size e .1 (f zero (zero-lt-suc (length es)))) (fair-all size es (sum + e .share) (λ l b. f (suc l) (suc-le-suc b)) (omega arith))
 
-nothing-iff : (e : Entry) → isNothing e ≡ true ↔ (e ≡ nothing)
-unfolding isNothing
-nothing-iff e = (to, λ q. ap isNothing q)
+zero-iff : (e : Entry) → isZero e ≡ true ↔ (e ≡ zeroEntry)
+unfolding isZero
+zero-iff e = (to, λ q. ap isZero q)
   where
-    to : isNothing e ≡ true → e ≡ nothing
+    to : isZero e ≡ true → e ≡ zeroEntry
     to h =
         let p = and-both (eqb (e .head) 0) (eqb (e .tail) 0 && (eqb (e .share) 0 && eqb (e .limit) 0)) h in
         let q = and-both (eqb (e .tail) 0) (eqb (e .share) 0 && eqb (e .limit) 0) (p .1) in
         let r = and-both (eqb (e .share) 0) (eqb (e .limit) 0) (q .1) in
         λ i. record { head = eqb-true (e .head) 0 (p .0) i; tail = eqb-true (e .tail) 0 (q .0) i; share = eqb-true (e .share) 0 (r .0) i; limit = eqb-true (e .limit) 0 (r .1) i }
 
-all-nothing : (es : List Entry) → allNothing es ≡ true → (l : ℕ) → entryAt es l ≡ nothing
-unfolding allNothing
-all-nothing [] h l = refl
-all-nothing (e ∷ es) h zero = nothing-iff e .0 (and-both (isNothing e) (allNothing es) h .0)
-all-nothing (e ∷ es) h (suc l) = all-nothing es (and-both (isNothing e) (allNothing es) h .1) l
+all-zero : (es : List Entry) → allZero es ≡ true → (l : ℕ) → entryAt es l ≡ zeroEntry
+unfolding allZero
+all-zero [] h l = refl
+all-zero (e ∷ es) h zero = zero-iff e .0 (and-both (isZero e) (allZero es) h .0)
+all-zero (e ∷ es) h (suc l) = all-zero es (and-both (isZero e) (allZero es) h .1) l
 
-nothing-all : (es : List Entry) → ((l : ℕ) → entryAt es l ≡ nothing) → allNothing es ≡ true
-unfolding allNothing
-nothing-all [] h = refl
-nothing-all (e ∷ es) h = both-and _ _ (nothing-iff e .1 (h zero)) (nothing-all es (λ l. h (suc l)))
+zero-all : (es : List Entry) → ((l : ℕ) → entryAt es l ≡ zeroEntry) → allZero es ≡ true
+unfolding allZero
+zero-all [] h = refl
+zero-all (e ∷ es) h = both-and _ _ (zero-iff e .1 (h zero)) (zero-all es (λ l. h (suc l)))
 
 -- the test is true exactly where the rules hold
 pub rules-hold : (size places lists : ℕ) (es : List Entry) → rulesHold size places lists es ≡ true ↔ Rules size places lists es
@@ -103,21 +104,21 @@ rules-hold size places lists es = (to, from)
     fairAt f p l b = go (decLt l (length (take lists es)))
       where
         go : Dec (l < length (take lists es)) → Fair size (entryAt es l)
-        go (yes c) = rw (getD-take lists es l nothing b) at (f l c)
-        go (no c) = rw (sym (getD-take lists es l nothing b) ∙ List·getD-eq-default (take lists es) nothing (omega arith)) (omega arith, p)
+        go (yes c) = rw (getD-take lists es l zeroEntry b) at (f l c)
+        go (no c) = rw (sym (getD-take lists es l zeroEntry b) ∙ List·getD-eq-default (take lists es) zeroEntry (omega arith)) (omega arith, p)
 
     to : rulesHold size places lists es ≡ true → Rules size places lists es
     to h =
         let a = and-both (leb 1 lists) _ h in
         let b = and-both (leb lists places) _ (a .1) in
-        let c = and-both (gather size (take lists es) 0) (allNothing (drop lists es)) (b .1) in
+        let c = and-both (gather size (take lists es) 0) (allZero (drop lists es)) (b .1) in
         let g = all-fair size (take lists es) 0 (c .0) in
         record {
           least = leb-true 1 lists (a .0);
           most = leb-true lists places (b .0);
           fair = fairAt (g .0) (omega (arith, g .1));
           fits = omega (arith, g .1);
-          unused = λ l k. ap (entryAt es) (omega arith) ∙ sym (getD-drop lists es (l - lists) nothing) ∙ all-nothing (drop lists es) (c .1) (l - lists);
+          unused = λ l k. ap (entryAt es) (omega arith) ∙ sym (getD-drop lists es (l - lists) zeroEntry) ∙ all-zero (drop lists es) (c .1) (l - lists);
         }
 
     from : Rules size places lists es → rulesHold size places lists es ≡ true
@@ -126,8 +127,11 @@ rules-hold size places lists es = (to, from)
         (both-and _ _ (le-leb lists places (r .most))
         (both-and _ _
         (fair-all size (take lists es) 0 (λ l b. inside l b (decLt l lists)) (omega (arith, r .fits)))
-        (nothing-all (drop lists es) (λ l. getD-drop lists es l nothing ∙ r .unused (lists + l) (omega arith)))))
+        (zero-all (drop lists es) (λ l. getD-drop lists es l zeroEntry ∙ r .unused (lists + l) (omega arith)))))
       where
         inside : (l : ℕ) → l < length (take lists es) → Dec (l < lists) → Fair size (entryAt (take lists es) l)
-        inside l b (yes c) = rw (getD-take lists es l nothing c) (r .fair l c)
+        inside l b (yes c) = rw (getD-take lists es l zeroEntry c) (r .fair l c)
         inside l b (no c) = absurd (omega (arith, length-take lists es))
+
+pub keeps-rules : (size : ℕ) (b : Book) → keepsRules size b ≡ true ↔ BookRules size b
+keeps-rules size b = rules-hold size mostLists (b .lists) (b .entries)

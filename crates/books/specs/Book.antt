@@ -25,15 +25,15 @@ abbrev pub mostLists : ℕ
 mostLists = 8
 
 -- the entry of no list
-abbrev pub nothing : Entry
-nothing = record { head = 0; tail = 0; share = 0; limit = 0 }
+abbrev pub zeroEntry : Entry
+zeroEntry = record { head = 0; tail = 0; share = 0; limit = 0 }
 
 -- list l's entry
 abbrev pub entryAt : List Entry → ℕ → Entry
-entryAt es l = getD es l nothing
+entryAt es l = getD es l zeroEntry
 
 abbrev pub zeroBook : Book
-zeroBook = record { lists = 0; entries = replicate mostLists nothing; free = record { head = 0 } }
+zeroBook = record { lists = 0; entries = replicate mostLists zeroEntry; free = record { head = 0 } }
 
 -- the book as the words of its record, in their order
 abbrev pub entryWords : List Entry → List ℕ

@@ -2,3 +2,4 @@
 pub mod Book
 pub mod Rules
 pub mod Test
+pub mod Outcome

@@ -5,7 +5,7 @@ use Prim.Native.Nat.{ℕ, _+_, _≤_, _<_}
 use lib.ListN.{take}
 use Rattle.books.specs.declared.Entry.{Entry}
 use Rattle.books.specs.declared.Book.{Book}
-use Rattle.books.specs.Book.{smallestPool, largestPool, mostLists, nothing, entryAt}
+use Rattle.books.specs.Book.{smallestPool, largestPool, mostLists, zeroEntry, entryAt}
 
 -- 01: "N runs from 2 to 4,096"
 pub record Size (size : ℕ) : Type 0 where
@@ -27,7 +27,7 @@ pub record Rules (size places lists : ℕ) (es : List Entry) : Type 0 where
   -- 01: "the shares add up to at most N-1"
   pub fits : sharesOf (take lists es) < size
   -- 01: "entries from L on are all 0"
-  pub unused : (l : ℕ) → lists ≤ l → entryAt es l ≡ nothing
+  pub unused : (l : ℕ) → lists ≤ l → entryAt es l ≡ zeroEntry
 
 -- the rules of the book of eight entries
 abbrev pub BookRules : ℕ → Book → Type 0

@@ -5,7 +5,8 @@ use Prim.Native.Nat.{ℕ, _+_}
 use lib.Dec.{leb, ltb, eqb}
 use lib.ListN.{take, drop}
 use Rattle.books.specs.declared.Entry.{Entry}
-use Rattle.books.specs.Book.{smallestPool, largestPool}
+use Rattle.books.specs.declared.Book.{Book}
+use Rattle.books.specs.Book.{smallestPool, largestPool, mostLists}
 
 abbrev pub sizeFits : ℕ → Bool
 sizeFits size = leb smallestPool size && leb size largestPool
@@ -13,17 +14,21 @@ sizeFits size = leb smallestPool size && leb size largestPool
 unfoldable pub isFair : ℕ → Entry → Bool
 isFair size e = leb (e .share) (e .limit) && ltb (e .limit) size
 
-unfoldable pub isNothing : Entry → Bool
-isNothing e = eqb (e .head) 0 && (eqb (e .tail) 0 && (eqb (e .share) 0 && eqb (e .limit) 0))
+unfoldable pub isZero : Entry → Bool
+isZero e = eqb (e .head) 0 && (eqb (e .tail) 0 && (eqb (e .share) 0 && eqb (e .limit) 0))
 
 -- each entry is fair, and `sum` and their shares together are below the size
 unfoldable pub gather : ℕ → List Entry → ℕ → Bool
 gather size [] sum = ltb sum size
 gather size (e ∷ es) sum = isFair size e && gather size es (sum + e .share)
 
-unfoldable pub allNothing : List Entry → Bool
-allNothing [] = true
-allNothing (e ∷ es) = isNothing e && allNothing es
+unfoldable pub allZero : List Entry → Bool
+allZero [] = true
+allZero (e ∷ es) = isZero e && allZero es
 
 abbrev pub rulesHold : ℕ → ℕ → ℕ → List Entry → Bool
-rulesHold size places lists es = leb 1 lists && (leb lists places && (gather size (take lists es) 0 && allNothing (drop lists es)))
+rulesHold size places lists es = leb 1 lists && (leb lists places && (gather size (take lists es) 0 && allZero (drop lists es)))
+
+-- the book of eight entries; the law `keeps-rules` says that it is true exactly where `BookRules` holds
+abbrev pub keepsRules : ℕ → Book → Bool
+keepsRules size b = rulesHold size mostLists (b .lists) (b .entries)

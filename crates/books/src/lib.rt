@@ -2,10 +2,10 @@
 ghost use mathlib.Core.Path.{_≡_};
 ghost use Prim.Native.Nat.{_≤_, _<_};
 ghost use lib.ListN.{take, drop};
-ghost use Rattle.books.specs.Book.{nothing, zeroBook};
-ghost use Rattle.books.specs.Test.{sizeFits, isFair, isNothing, gather, allNothing, rulesHold};
+ghost use Rattle.books.specs.Book.{zeroEntry, zeroBook};
+ghost use Rattle.books.specs.Test.{sizeFits, isFair, isZero, gather, allZero, keepsRules};
 
-// The idle chain's end. It is passed whole, so that a new field changes no signature.
+// The idle chain: its first slot, or 0. It is passed whole, so that a new field changes no signature.
 #[repr(C)]
 pub struct Free {
     pub head: u16,
@@ -35,9 +35,9 @@ pub struct Book {
 }
 
 impl Entry {
-    // The entry of no list.
+    // The all-zero entry, which no list has.
     pub fn zero() -> Self
-        ensures { λ r. ⌜ r ≡ nothing ⌝ }
+        ensures { λ r. ⌜ r ≡ zeroEntry ⌝ }
     {
         Entry {
             head: 0,
@@ -83,7 +83,7 @@ impl Book {
 
     // Does the book keep the book rules in a pool of so many slots?
     pub fn keeps_rules(self, size: usize) -> bool
-        ensures { λ r. ⌜ r ≡ rulesHold size 8 (self .lists) (self .entries) ⌝ }
+        ensures { λ r. ⌜ r ≡ keepsRules size self ⌝ }
     {
         let lists = self.lists;
         let entries = self.entries;
@@ -97,7 +97,7 @@ impl Book {
         if !shares_fit(entries, count, size) {
             return false;
         }
-        rest_nothing(entries, count)
+        rest_zero(entries, count)
     }
 }
 
@@ -137,8 +137,8 @@ fn shares_fit(entries: [Entry; 8], count: usize, size: usize) -> bool
     sum < size
 }
 
-fn is_nothing(entry: Entry) -> bool
-    ensures { λ r. ⌜ r ≡ isNothing entry ⌝ }
+fn is_zero(entry: Entry) -> bool
+    ensures { λ r. ⌜ r ≡ isZero entry ⌝ }
 {
     if entry.head == 0 {
         if entry.tail == 0 {
@@ -151,14 +151,14 @@ fn is_nothing(entry: Entry) -> bool
 }
 
 // Are all entries from `from` on zero?
-fn rest_nothing(entries: [Entry; 8], from: usize) -> bool
+fn rest_zero(entries: [Entry; 8], from: usize) -> bool
     requires { ⌜ from ≤ 8 ⌝ }
-    ensures { λ r. ⌜ r ≡ allNothing (drop from entries) ⌝ }
+    ensures { λ r. ⌜ r ≡ allZero (drop from entries) ⌝ }
 {
     let mut k = from;
     while k < 8 {
         let entry = entries[k];
-        if !is_nothing(entry) {
+        if !is_zero(entry) {
             return false;
         }
         k += 1;

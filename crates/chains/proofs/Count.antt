@@ -38,3 +38,10 @@ count-first x xs = omega (arith, hit-same x)
 -- it does not matter to a count where a slot stands
 pub count-moved : (y s : ℕ) (xs ys : List ℕ) → count y (xs ++ s ∷ ys) ≡ count y (s ∷ xs ++ ys)
 count-moved y s xs ys = omega (arith, count-append y xs (s ∷ ys), count-append y xs ys)
+
+-- a number is not in a sequence of one exactly where it is another
+pub one-other : (s y : ℕ) → y ≢ s → count y (s ∷ []) ≡ 0
+one-other s y d = omega (arith, hit-other y s d)
+
+pub other-one : (s y : ℕ) → count y (s ∷ []) ≡ 0 → y ≢ s
+other-one s y h e = omega (arith, ap (λ z. hit z s) e, hit-same s)

@@ -9,13 +9,16 @@ use borrow.Author.Tests.{eq-eqb, ne-eqb, eqb-true}
 use Rattle.books.specs.declared.Free.{Free}
 use Rattle.books.specs.declared.Entry.{Entry}
 use Rattle.books.specs.Book.{nullSlot}
+use Rattle.books.specs.Outcome.{Outcome, outcome}
 use Rattle.chains.specs.Count.{count}
 use Rattle.chains.specs.Chain.{cell, firstOr, IdleChain}
 use Rattle.chains.proofs.Count.{count-append, count-reverse, count-first}
 use Rattle.chains.proofs.Chain.{first-reverse, last-reverse, live-reverse}
 use Rattle.lists.specs.declared.End.{End}
 use Rattle.lists.specs.declared.End.the-variants.{Front, Back}
-use Rattle.lists.specs.Model.{newOf, nearOf, withNear, PushedWith, pushedWith, pushEmptyOf, pushOf, PoppedWith, poppedWith, popOf}
+use Rattle.lists.specs.declared.Pushed.{Pushed}
+use Rattle.lists.specs.declared.Popped.{Popped}
+use Rattle.lists.specs.Model.{newOf, nearOf, withNear, pushEmptyOf, pushOf, popOf}
 use Rattle.lists.specs.Meaning.{Apart, joined, contents, Held, Joins, Leaves}
 use Rattle.lists.proofs.Ways.{PushWay, push-way, PopWay, pop-way}
 use Rattle.lists.proofs.Ways as W
@@ -27,11 +30,11 @@ use Rattle.lists.proofs.Front.{in-list, tail-not-null, push-front, pop-
 abbrev flip : Entry → Entry
 flip list = record { head = list .tail; tail = list .head; share = list .share; limit = list .limit }
 
-abbrev flipPushed : PushedWith → PushedWith
-flipPushed r = pushedWith (record { done = r .answer .done; entry = flip (r .answer .entry); free = r .answer .free }) (r .links) (r .values)
+abbrev flipPushed : Outcome Pushed → Outcome Pushed
+flipPushed r = outcome (record { done = r .answer .done; entry = flip (r .answer .entry); free = r .answer .free }) (r .links) (r .values)
 
-abbrev flipPopped : PoppedWith → PoppedWith
-flipPopped r = poppedWith (record { done = r .answer .done; value = r .answer .value; entry = flip (r .answer .entry); free = r .answer .free }) (r .links) (r .values)
+abbrev flipPopped : Outcome Popped → Outcome Popped
+flipPopped r = outcome (record { done = r .answer .done; value = r .answer .value; entry = flip (r .answer .entry); free = r .answer .free }) (r .links) (r .values)
 
 mirror : {links values : List ℕ} {list : Entry} {free : Free} {xs fs : List ℕ} → Held links values list free xs fs → Held links values (flip list) free (reverse xs) fs
 mirror {links} {values} {list} {free} {xs} {fs} H =
@@ -66,7 +69,7 @@ same-null {list = list} (x ∷ xs) H =
     ne-eqb (list .head) nullSlot (λ e. omega (arith, H .head, in-list H x (count-first x xs) .notNull)) ∙ sym (ne-eqb (list .tail) nullSlot (tail-not-null H))
 
 module _ {links values : List ℕ} {list : Entry} {free : Free} {value : ℕ} (same : eqb (list .head) nullSlot ≡ eqb (list .tail) nullSlot) where
-  flip-push : {r : PushedWith} → PushWay Back links values list free value r → PushWay Front links values (flip list) free value (flipPushed r)
+  flip-push : {r : Outcome Pushed} → PushWay Back links values list free value r → PushWay Front links values (flip list) free value (flipPushed r)
   unfolding nearOf withNear
   flip-push (W.alone e p) = W.alone (eqb-true _ _ (same ∙ eq-eqb _ _ e)) p
   flip-push (W.beside e p d q) = W.beside (λ k. e (eqb-true _ _ (sym same ∙ eq-eqb _ _ k))) p d q
@@ -82,7 +85,7 @@ module _ {links values : List ℕ} {list : Entry} {free : Free} {s : ℕ} {xs fs
       record {
         done = J .done;
         held = subst (λ (zs : List ℕ). Held (r .links) (r .values) (r .answer .entry) (r .answer .free) zs fs) (turned-back s xs) (mirror (J .held));
-        contents = ap (contents (r .values)) (sym (turned-back s xs)) ∙ contents-reverse (r .values) (s ∷ reverse xs) ∙ ap reverse (J .contents)
+        holds = ap (contents (r .values)) (sym (turned-back s xs)) ∙ contents-reverse (r .values) (s ∷ reverse xs) ∙ ap reverse (J .holds)
             ∙ ap (λ zs. reverse (value ∷ zs)) (contents-reverse values xs) ∙ turned-back value (contents values xs);
       }
 
@@ -93,7 +96,7 @@ empty-held {links} {values} {list} {free} value end H = rw (empty-push links val
 
 -- ---- pop
 
-flip-pop : {links values : List ℕ} {list : Entry} {free : Free} {slot near : ℕ} {r : PoppedWith} → PopWay Back links values list free slot near r
+flip-pop : {links values : List ℕ} {list : Entry} {free : Free} {slot near : ℕ} {r : Outcome Popped} → PopWay Back links values list free slot near r
     → PopWay Front links values (flip list) free slot near (flipPopped r)
 unfolding withNear
 flip-pop (W.only p e) = W.only p e
@@ -112,12 +115,16 @@ module _ {links values : List ℕ} {list : Entry} {free : Free} {s : ℕ} {xs fs
       record {
         done = L .done;
         held = subst (λ (zs : List ℕ). Held (r .links) (r .values) (r .answer .entry) (r .answer .free) zs (s ∷ fs)) (reverse-reverse xs) (mirror (L .held));
-        contents = sym (turned-back (r .answer .value) (contents (r .values) xs)) ∙ ap (λ zs. reverse (r .answer .value ∷ zs)) (sym (contents-reverse (r .values) xs))
-            ∙ ap reverse (L .contents) ∙ sym (contents-reverse values (s ∷ reverse xs)) ∙ ap (contents values) (turned-back s xs);
+        holds = sym (turned-back (r .answer .value) (contents (r .values) xs)) ∙ ap (λ zs. reverse (r .answer .value ∷ zs)) (sym (contents-reverse (r .values) xs))
+            ∙ ap reverse (L .holds) ∙ sym (contents-reverse values (s ∷ reverse xs)) ∙ ap (contents values) (turned-back s xs);
         wiped = L .wiped;
       }
 
 -- ---- new
+
+-- a new list has the share and the limit that it was given
+pub new-keeps : (share limit : ℕ) → (newOf share limit .share ≡ share) × (newOf share limit .limit ≡ limit)
+new-keeps share limit = (refl, refl)
 
 -- 000's `new`: the list holds nothing, whatever the pool is
 pub new-held : {links values : List ℕ} {free : Free} {fs : List ℕ} (share limit : ℕ) → Apart links values fs → free .head ≡ firstOr 0 fs → IdleChain links fs

@@ -12,16 +12,19 @@ use lib.Seq.{getD-set-same, getD-set-other, lt-length-set}
 use Rattle.books.specs.declared.Free.{Free}
 use Rattle.books.specs.declared.Entry.{Entry}
 use Rattle.books.specs.Book.{nullSlot}
+use Rattle.books.specs.Outcome.{Outcome}
 use Rattle.chains.specs.Count.{hit, count}
 use Rattle.chains.specs.Chain.{cell, firstOr, lastOr, after}
-use Rattle.chains.proofs.Count.{hit-same, count-append, count-first, count-apart, count-moved}
+use Rattle.chains.proofs.Count.{hit-same, count-append, count-first, count-apart, count-moved, one-other}
 use Rattle.chains.proofs.Chain.{Chain, linked-iff, chain-frame}
 use Rattle.chains.proofs.Ends.{first-apart, last-not-null, push-chain, pop-chain, idle-any}
 use Rattle.slots.specs.Slot.{InPool}
 use Rattle.slots.specs.Model.{releaseOf}
 use Rattle.slots.proofs.Laws.{release-wipes}
 use Rattle.lists.specs.declared.End.the-variants.{Front}
-use Rattle.lists.specs.Model.{nearOf, withNear, PushedWith, PoppedWith}
+use Rattle.lists.specs.declared.Pushed.{Pushed}
+use Rattle.lists.specs.declared.Popped.{Popped}
+use Rattle.lists.specs.Model.{nearOf, withNear}
 use Rattle.lists.specs.Meaning.{contents, Held, Joins, Leaves}
 use Rattle.lists.proofs.Ways.{one-apart, two-apart, PushWay, PopWay}
 use Rattle.lists.proofs.Ways as W
@@ -94,7 +97,7 @@ tail-not-null {x = x} {xs = xs} H e = omega (arith, H .tail, last-not-null x xs 
 
 module _ {links values : List ℕ} {list : Entry} {free : Free} {value s : ℕ} {fs : List ℕ} where
   -- a push at the front that may go its way puts the first idle slot in front
-  pub push-front : (xs : List ℕ) {r : PushedWith} → Held links values list free xs (s ∷ fs) → PushWay Front links values list free value r → Joins Front s value values xs fs r
+  pub push-front : (xs : List ℕ) {r : Outcome Pushed} → Held links values list free xs (s ∷ fs) → PushWay Front links values list free value r → Joins Front s value values xs fs r
   unfolding nearOf withNear
   push-front [] H (W.alone e p) =
       let q = in-idle H s (count-first s fs) in
@@ -103,7 +106,7 @@ module _ {links values : List ℕ} {list : Entry} {free : Free} {value s : ℕ} 
         done = refl;
         held = front-held H _ _ _ _ (simp length-set) (simp length-set) (let b = q .hasLink in simp getD-set-same) (λ h. absurd (not-suc-le-zero h))
             (λ y d k. simp getD-set-other) refl refl refl;
-        contents = let b = q .hasValue in simp getD-set-same;
+        holds = let b = q .hasValue in simp getD-set-same;
       })
   push-front [] H (W.beside e p d q) = absurd (e (H .tail))
   push-front [] H (W.none n) = absurd (n (one-apart (free .head) (list .tail) (list .head) (H .tail) (rw (H .freeHead) (in-idle H s (count-first s fs)))))
@@ -117,7 +120,7 @@ module _ {links values : List ℕ} {list : Entry} {free : Free} {value s : ℕ} 
         done = refl;
         held = front-held H _ _ _ _ (simp length-set) (simp length-set) (let i = a .hasLink in simp (getD-set-same, lt-length-set))
             (λ h. let i = b .hasLink in simp (getD-set-other, getD-set-same)) (λ y i k. simp getD-set-other) refl (H .tail) refl;
-        contents = λ i. getD-set-same values s value 0 (a .hasValue) i ∷ contents-same values (set values s value) (x ∷ xs)
+        holds = λ i. getD-set-same values s value 0 (a .hasValue) i ∷ contents-same values (set values s value) (x ∷ xs)
             (λ y k. getD-set-other values s y value 0 (count-apart (x ∷ xs) k (omega (arith, held-once H s, hit-same s)))) i;
       })
   push-front (x ∷ xs) H (W.none n) =
@@ -159,15 +162,15 @@ module _ {links values : List ℕ} {list : Entry} {free : Free} {s : ℕ} {xs fs
       not-first y p = first-apart xs y (in-idle H y (omega arith) .notNull) (omega (arith, held-once H y))
 
 module _ {links values : List ℕ} {list : Entry} {free : Free} {s : ℕ} {fs : List ℕ} where
-  front-way : (xs : List ℕ) {r : PoppedWith} → Held links values list free (s ∷ xs) fs → PopWay Front links values list free s (firstOr 0 xs) r → Leaves Front s values xs fs r
+  front-way : (xs : List ℕ) {r : Outcome Popped} → Held links values list free (s ∷ xs) fs → PopWay Front links values list free s (firstOr 0 xs) r → Leaves Front s values xs fs r
   unfolding withNear
   front-way [] H (W.only p e) =
       let w = release-wipes links values s free p in
       record {
         done = w .done;
-        held = front-left H (releaseOf links values s free .links) (releaseOf links values s free .values) _ _ (w .sameLinks) (w .sameValues) (w .link)
-            (λ h. absurd (not-suc-le-zero h)) (λ y d k. w .otherLinks y d) refl refl (w .head);
-        contents = refl;
+        held = front-left H (releaseOf links values s free .links) (releaseOf links values s free .values) _ _ (w .frame .sameLinks) (w .frame .sameValues) (w .link)
+            (λ h. absurd (not-suc-le-zero h)) (λ y d k. w .frame .otherLinks y (one-other s y d)) refl refl (w .head);
+        holds = refl;
         wiped = w .wiped;
       }
   front-way [] H (W.beside p e d q) = absurd (e refl)
@@ -178,12 +181,12 @@ module _ {links values : List ℕ} {list : Entry} {free : Free} {s : ℕ} {fs : 
       let l = releaseOf links values s free .links in
       record {
         done = w .done;
-        held = front-left H (set l x (bitXor (cell l x) s)) (releaseOf links values s free .values) _ _ (length-set l x (bitXor (cell l x) s) ∙ w .sameLinks) (w .sameValues)
+        held = front-left H (set l x (bitXor (cell l x) s)) (releaseOf links values s free .values) _ _ (length-set l x (bitXor (cell l x) s) ∙ w .frame .sameLinks) (w .frame .sameValues)
             (getD-set-other l x s (bitXor (cell l x) s) 0 (λ k. d (sym k)) ∙ w .link)
-            (λ h. getD-set-same l x (bitXor (cell l x) s) 0 (omega (arith, w .sameLinks, q .hasLink)) ∙ ap (λ z. bitXor z s) (w .otherLinks x d))
-            (λ y i k. getD-set-other l x y (bitXor (cell l x) s) 0 k ∙ w .otherLinks y i) refl (H .tail) (w .head);
-        contents = ap (λ zs. cell values s ∷ zs) (contents-same values (releaseOf links values s free .values) (x ∷ xs)
-            (λ y k. w .otherValues y (count-apart (x ∷ xs) k (omega (arith, held-once H s, hit-same s)))));
+            (λ h. getD-set-same l x (bitXor (cell l x) s) 0 (omega (arith, w .frame .sameLinks, q .hasLink)) ∙ ap (λ z. bitXor z s) (w .frame .otherLinks x (one-other s x d)))
+            (λ y i k. getD-set-other l x y (bitXor (cell l x) s) 0 k ∙ w .frame .otherLinks y (one-other s y i)) refl (H .tail) (w .head);
+        holds = ap (λ zs. cell values s ∷ zs) (contents-same values (releaseOf links values s free .values) (x ∷ xs)
+            (λ y k. w .frame .otherValues y (one-other s y (count-apart (x ∷ xs) k (omega (arith, held-once H s, hit-same s))))));
         wiped = w .wiped;
       }
   front-way (x ∷ xs) H (W.none n) =
@@ -191,7 +194,7 @@ module _ {links values : List ℕ} {list : Entry} {free : Free} {s : ℕ} {fs : 
       absurd (n (two-apart s x x (λ e. omega (arith, p .notNull)) (in-list H s (count-first s (x ∷ xs))) (λ k. omega (arith, held-once H s, hit-same s, ap (hit s) k)) p))
 
   -- a pop at the front that may go its way takes the first slot, wiped, to the front of the idle chain
-  pub pop-front : (xs : List ℕ) {r : PoppedWith} → Held links values list free (s ∷ xs) fs
+  pub pop-front : (xs : List ℕ) {r : Outcome Popped} → Held links values list free (s ∷ xs) fs
       → PopWay Front links values list free (nearOf Front list) (cell links (nearOf Front list)) r → Leaves Front s values xs fs r
   unfolding nearOf
   pop-front xs {r} H way =

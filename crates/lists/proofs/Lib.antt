@@ -4,3 +4,4 @@ pub mod Ways
 pub mod Steps
 pub mod Front
 pub mod Ends
+pub mod Pools

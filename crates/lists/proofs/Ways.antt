@@ -11,6 +11,7 @@ use borrow.Author.Tests.{eqb-true, eqb-false, eq-eqb, ne-eqb}
 use Rattle.books.specs.declared.Free.{Free}
 use Rattle.books.specs.declared.Entry.{Entry}
 use Rattle.books.specs.Book.{nullSlot}
+use Rattle.books.specs.Outcome.{Outcome}
 use Rattle.books.proofs.Tests.{not-both}
 use Rattle.chains.specs.Count.{hit}
 use Rattle.chains.specs.Chain.{cell}
@@ -19,8 +20,9 @@ use Rattle.slots.specs.Slot.{InPool, inPool}
 use Rattle.slots.specs.Model.{takeOf}
 use Rattle.slots.proofs.Slot.{in-pool, not-in-pool}
 use Rattle.lists.specs.declared.End.{End}
-use Rattle.lists.specs.Model.{nearOf, isBeside, refusedPush, PushedWith, pushedWith, pushEmptyOf, pushBesideOf, pushOf, refusedPop, PoppedWith, poppedWith, lastLeaves, endLeaves, popOf}
-use Rattle.lists.specs.Model as M
+use Rattle.lists.specs.declared.Pushed.{Pushed}
+use Rattle.lists.specs.declared.Popped.{Popped}
+use Rattle.lists.specs.Model.{nearOf, isBeside, notPushed, pushedAlone, pushedBeside, pushEmptyOf, pushBesideOf, pushOf, notPopped, lastLeaves, endLeaves, popOf}
 use Rattle.lists.specs.Meaning.{Apart, unlessNull, touchedByPush}
 use Rattle.lists.proofs.Beside.{beside-iff}
 
@@ -63,12 +65,12 @@ module _ {links values : List ℕ} (s : ℕ) where
 -- ---- push
 
 module _ (end : End) (links values : List ℕ) (list : Entry) (free : Free) (value : ℕ) where
-  pub data PushWay : PushedWith → Type 0 where
+  pub data PushWay : Outcome Pushed → Type 0 where
     alone : list .tail ≡ nullSlot → InPool links values (free .head)
-        → PushWay (M.alone links values list free value (free .head) (record { head = cell links (free .head) }))
+        → PushWay (pushedAlone links values list free value (free .head) (record { head = cell links (free .head) }))
     beside : list .tail ≢ nullSlot → InPool links values (free .head) → nearOf end list ≢ free .head → InPool links values (nearOf end list)
-        → PushWay (M.beside end links values list free value (nearOf end list) (free .head) (record { head = cell links (free .head) }))
-    none : (Apart links values (touchedByPush end list free) → ⊥) → PushWay (pushedWith (refusedPush list free) links values)
+        → PushWay (pushedBeside end links values list free value (nearOf end list) (free .head) (record { head = cell links (free .head) }))
+    none : (Apart links values (touchedByPush end list free) → ⊥) → PushWay (notPushed links values list free value)
 
   pub push-way : PushWay (pushOf end links values list free value)
   unfolding pushOf pushEmptyOf pushBesideOf takeOf
@@ -90,10 +92,10 @@ module _ (end : End) (links values : List ℕ) (list : Entry) (free : Free) (val
 -- ---- pop
 
 module _ (end : End) (links values : List ℕ) (list : Entry) (free : Free) where
-  pub data PopWay (slot near : ℕ) : PoppedWith → Type 0 where
+  pub data PopWay (slot near : ℕ) : Outcome Popped → Type 0 where
     only : InPool links values slot → near ≡ nullSlot → PopWay slot near (lastLeaves end links values list free slot)
     beside : InPool links values slot → near ≢ nullSlot → near ≢ slot → InPool links values near → PopWay slot near (endLeaves end links values list free slot near)
-    none : (Apart links values (slot ∷ unlessNull near near) → ⊥) → PopWay slot near (poppedWith (refusedPop list free) links values)
+    none : (Apart links values (slot ∷ unlessNull near near) → ⊥) → PopWay slot near (notPopped end links values list free)
 
   pub pop-way : PopWay (nearOf end list) (cell links (nearOf end list)) (popOf end links values list free)
   unfolding popOf

@@ -1,20 +1,24 @@
--- What the laws say of a push and a pop: 01's, 02's and 000's words, with no model in them.
+-- What the laws say of a push and a pop, in 01's, 02's and 000's words, over the answer and the cells alone.
 use mathlib.Core.Path.{_≡_}
 use mathlib.Core.Logic.{_≢_}
-use mathlib.Core.Bool.{true, cond}
+use mathlib.Core.Bool.{true, false, cond}
 use mathlib.Core.List.{List, [], _∷_, _++_, map}
 use Prim.Native.Nat.{ℕ, _≤_, _<_}
+use lib.Bits.{bitXor}
 use lib.Dec.{eqb}
-use lib.ListN.{length}
 use Rattle.books.specs.declared.Free.{Free}
 use Rattle.books.specs.declared.Entry.{Entry}
 use Rattle.books.specs.Book.{nullSlot, wipeWord}
+use Rattle.books.specs.Outcome.{Outcome}
 use Rattle.chains.specs.Count.{count}
 use Rattle.chains.specs.Chain.{cell, firstOr, lastOr, LiveChain, IdleChain}
 use Rattle.slots.specs.Slot.{InPool}
+use Rattle.slots.specs.Meaning.{Frame}
 use Rattle.lists.specs.declared.End.{End}
 use Rattle.lists.specs.declared.End.the-variants.{Front, Back}
-use Rattle.lists.specs.Model.{nearOf, PushedWith, PoppedWith}
+use Rattle.lists.specs.declared.Pushed.{Pushed}
+use Rattle.lists.specs.declared.Popped.{Popped}
+use Rattle.lists.specs.Model.{nearOf}
 
 -- ---- when a step is done
 
@@ -37,6 +41,10 @@ touchedByPop end links list = nearOf end list ∷ unlessNull (cell links (nearOf
 
 -- ---- what a done step leaves
 
+abbrev pub opposite : End → End
+opposite Front = Back
+opposite Back = Front
+
 -- a slot, or a value, at an end of a sequence
 abbrev pub joined : End → ℕ → List ℕ → List ℕ
 joined Front x xs = x ∷ xs
@@ -58,37 +66,68 @@ pub record Held (links values : List ℕ) (list : Entry) (free : Free) (xs fs : 
   pub idle : IdleChain links fs
 
 -- slot s left the idle chain for an end of the list `xs`, with the value
-pub record Joins (end : End) (s value : ℕ) (values xs fs : List ℕ) (r : PushedWith) : Type 0 where
+pub record Joins (end : End) (s value : ℕ) (values xs fs : List ℕ) (r : Outcome Pushed) : Type 0 where
   pub done : r .answer .done ≡ true
   pub held : Held (r .links) (r .values) (r .answer .entry) (r .answer .free) (joined end s xs) fs
-  pub contents : contents (r .values) (joined end s xs) ≡ joined end value (contents values xs)
+  pub holds : contents (r .values) (joined end s xs) ≡ joined end value (contents values xs)
 
 -- slot s left the list for the front of the idle chain, wiped, and its value was handed out
-pub record Leaves (end : End) (s : ℕ) (values xs fs : List ℕ) (r : PoppedWith) : Type 0 where
+pub record Leaves (end : End) (s : ℕ) (values xs fs : List ℕ) (r : Outcome Popped) : Type 0 where
   pub done : r .answer .done ≡ true
   pub held : Held (r .links) (r .values) (r .answer .entry) (r .answer .free) xs (s ∷ fs)
-  pub contents : joined end (r .answer .value) (contents (r .values) xs) ≡ contents values (joined end s xs)
+  pub holds : joined end (r .answer .value) (contents (r .values) xs) ≡ contents values (joined end s xs)
   pub wiped : cell (r .values) s ≡ wipeWord
 
--- ---- what a step leaves alone, on any cells
+-- ---- what a step leaves on any cells
 
--- 01: "Only the new slot, the old end slot and, in the book, that list's ends and the free head change"
-pub record PushKeeps (end : End) (links values : List ℕ) (list : Entry) (free : Free) (value : ℕ) (r : PushedWith) : Type 0 where
+-- a refused push: everything is as it was
+pub record PushRefused (links values : List ℕ) (list : Entry) (free : Free) (r : Outcome Pushed) : Type 0 where
+  pub done : r .answer .done ≡ false
+  pub sameEntry : r .answer .entry ≡ list
+  pub sameFree : r .answer .free ≡ free
+  pub sameLinks : r .links ≡ links
+  pub sameValues : r .values ≡ values
+
+-- a done push: the slot at the free head is taken, stores the value and is linked as 000 does
+pub record PushDone (end : End) (links values : List ℕ) (list : Entry) (free : Free) (value : ℕ) (r : Outcome Pushed) : Type 0 where
+  pub done : r .answer .done ≡ true
+  pub rest : r .answer .free .head ≡ cell links (free .head)
+  pub stored : cell (r .values) (free .head) ≡ value
+  -- the list had no slot. 01: "the first slot has link 0"
+  pub first : list .tail ≡ nullSlot
+      → (r .answer .entry .head ≡ free .head) × (r .answer .entry .tail ≡ free .head) × (cell (r .links) (free .head) ≡ nullSlot)
+  -- it had one
+  pub next : list .tail ≢ nullSlot
+      → (nearOf end (r .answer .entry) ≡ free .head) × (nearOf (opposite end) (r .answer .entry) ≡ nearOf (opposite end) list)
+      × (cell (r .links) (free .head) ≡ nearOf end list) × (cell (r .links) (nearOf end list) ≡ bitXor (cell links (nearOf end list)) (free .head))
+  -- 01: "Only the new slot, the old end slot and, in the book, that list's ends and the free head change"
   pub share : r .answer .entry .share ≡ list .share
   pub limit : r .answer .entry .limit ≡ list .limit
-  pub stored : r .answer .done ≡ true → cell (r .values) (free .head) ≡ value
-  pub otherLinks : (y : ℕ) → y ≢ free .head → y ≢ nearOf end list → cell (r .links) y ≡ cell links y
-  pub otherValues : (y : ℕ) → y ≢ free .head → cell (r .values) y ≡ cell values y
-  pub sameLinks : length (r .links) ≡ length links
-  pub sameValues : length (r .values) ≡ length values
+  pub frame : Frame links values (r .links) (r .values) (touchedByPush end list free) (free .head ∷ [])
 
--- 01: "Only it, its neighbour and, in the book, that list's ends and the free head change"
-pub record PopKeeps (end : End) (links values : List ℕ) (list : Entry) (free : Free) (r : PoppedWith) : Type 0 where
+-- a refused pop: value 0, and everything is as it was
+pub record PopRefused (links values : List ℕ) (list : Entry) (free : Free) (r : Outcome Popped) : Type 0 where
+  pub done : r .answer .done ≡ false
+  pub noValue : r .answer .value ≡ 0
+  pub sameEntry : r .answer .entry ≡ list
+  pub sameFree : r .answer .free ≡ free
+  pub sameLinks : r .links ≡ links
+  pub sameValues : r .values ≡ values
+
+-- a done pop. 01: "The slot's value becomes 0 and the slot becomes the free head, its link the old free head"
+pub record PopDone (end : End) (links values : List ℕ) (list : Entry) (free : Free) (r : Outcome Popped) : Type 0 where
+  pub done : r .answer .done ≡ true
+  pub value : r .answer .value ≡ cell values (nearOf end list)
+  pub wiped : cell (r .values) (nearOf end list) ≡ wipeWord
+  pub freed : r .answer .free .head ≡ nearOf end list
+  pub link : cell (r .links) (nearOf end list) ≡ free .head
+  -- 01: "a pop that reads link 0 sets head and tail to 0"
+  pub last : cell links (nearOf end list) ≡ nullSlot → (r .answer .entry .head ≡ nullSlot) × (r .answer .entry .tail ≡ nullSlot)
+  -- 01: "otherwise the neighbour's link is XORed with the slot that left"
+  pub next : cell links (nearOf end list) ≢ nullSlot
+      → (nearOf end (r .answer .entry) ≡ cell links (nearOf end list)) × (nearOf (opposite end) (r .answer .entry) ≡ nearOf (opposite end) list)
+      × (cell (r .links) (cell links (nearOf end list)) ≡ bitXor (cell links (cell links (nearOf end list))) (nearOf end list))
+  -- 01: "Only it, its neighbour and, in the book, that list's ends and the free head change"
   pub share : r .answer .entry .share ≡ list .share
   pub limit : r .answer .entry .limit ≡ list .limit
-  pub value : r .answer .done ≡ true → r .answer .value ≡ cell values (nearOf end list)
-  pub wiped : r .answer .done ≡ true → cell (r .values) (nearOf end list) ≡ wipeWord
-  pub otherLinks : (y : ℕ) → y ≢ nearOf end list → y ≢ cell links (nearOf end list) → cell (r .links) y ≡ cell links y
-  pub otherValues : (y : ℕ) → y ≢ nearOf end list → cell (r .values) y ≡ cell values y
-  pub sameLinks : length (r .links) ≡ length links
-  pub sameValues : length (r .values) ≡ length values
+  pub frame : Frame links values (r .links) (r .values) (touchedByPop end links list) (nearOf end list ∷ [])

@@ -8,9 +8,11 @@ use lib.ListN.{set}
 use Rattle.books.specs.declared.Free.{Free}
 use Rattle.books.specs.declared.Entry.{Entry}
 use Rattle.books.specs.Book.{nullSlot}
+use Rattle.books.specs.Outcome.{Outcome, outcome}
 use Rattle.chains.specs.Chain.{cell}
 use Rattle.slots.specs.Slot.{inPool}
-use Rattle.slots.specs.Model.{takeOf, ReleasedWith, releasedWith, releaseOf}
+use Rattle.slots.specs.declared.Released.{Released}
+use Rattle.slots.specs.Model.{takeOf, releaseOf}
 use Rattle.lists.specs.declared.End.{End}
 use Rattle.lists.specs.declared.End.the-variants.{Front, Back}
 use Rattle.lists.specs.declared.Pushed.{Pushed}
@@ -32,9 +34,13 @@ unfoldable pub withNear : End → ℕ → Entry → Entry
 withNear Front slot list = record { head = slot; tail = list .tail; share = list .share; limit = list .limit }
 withNear Back slot list = record { head = list .head; tail = slot; share = list .share; limit = list .limit }
 
--- the list with one slot at both ends, or none at both
+-- the list with one slot at both ends
 abbrev pub withBoth : ℕ → Entry → Entry
 withBoth slot list = record { head = slot; tail = slot; share = list .share; limit = list .limit }
+
+-- the list with no slot at either end
+abbrev pub emptied : Entry → Entry
+emptied list = record { head = nullSlot; tail = nullSlot; share = list .share; limit = list .limit }
 
 -- `near` is a slot of the pool other than `slot`
 unfoldable pub isBeside : List ℕ → List ℕ → ℕ → ℕ → Bool
@@ -42,87 +48,84 @@ isBeside links values near slot = not (eqb near slot) && inPool links values nea
 
 -- ---- push
 
+abbrev pub donePush : Entry → Free → Pushed
+donePush list free = record { done = true; entry = list; free = free }
+
 abbrev pub refusedPush : Entry → Free → Pushed
 refusedPush list free = record { done = false; entry = list; free = free }
 
--- an answer with both slices as they are left
-pub record PushedWith : Type 0 where
-  pub answer : Pushed
-  pub links : List ℕ
-  pub values : List ℕ
-
-abbrev pub pushedWith : Pushed → List ℕ → List ℕ → PushedWith
-pushedWith answer links values = record { answer = answer; links = links; values = values }
-
 module _ (links values : List ℕ) (list : Entry) (free : Free) (value : ℕ) where
+  -- a refusal, and the cells as they were
+  abbrev pub notPushed : Outcome Pushed
+  notPushed = outcome (refusedPush list free) links values
+
   -- `slot` is the list's only one, and `rest` is idle. 01: "the first slot has link 0"
-  abbrev pub alone : ℕ → Free → PushedWith
-  alone slot rest = pushedWith (record { done = true; entry = withBoth slot list; free = rest }) (set links slot nullSlot) (set values slot value)
+  abbrev pub pushedAlone : ℕ → Free → Outcome Pushed
+  pushedAlone slot rest = outcome (donePush (withBoth slot list) rest) (set links slot nullSlot) (set values slot value)
 
   -- 000's push_empty_case: only an empty list has a first value
-  unfoldable pub pushEmptyOf : PushedWith
+  unfoldable pub pushEmptyOf : Outcome Pushed
   pushEmptyOf =
       let said = takeOf links values free in
       cond (eqb (list .tail) nullSlot)
-      (cond (said .done) (alone (said .slot) (said .free)) (pushedWith (refusedPush list free) links values))
-      (pushedWith (refusedPush list free) links values)
+      (cond (said .done) (pushedAlone (said .slot) (said .free)) notPushed)
+      notPushed
 
 module _ (end : End) (links values : List ℕ) (list : Entry) (free : Free) (value : ℕ) where
   -- `slot` stands at the end, where `near` stood: the link of `near` is XORed with `slot`, and the link of `slot` is `near`
-  abbrev pub beside : ℕ → ℕ → Free → PushedWith
-  beside near slot rest =
-      pushedWith (record { done = true; entry = withNear end slot list; free = rest })
+  abbrev pub pushedBeside : ℕ → ℕ → Free → Outcome Pushed
+  pushedBeside near slot rest =
+      outcome (donePush (withNear end slot list) rest)
       (set (set links near (bitXor (cell links near) slot)) slot near)
       (set values slot value)
 
-  unfoldable pub pushBesideOf : PushedWith
+  unfoldable pub pushBesideOf : Outcome Pushed
   pushBesideOf =
       let said = takeOf links values free in
       let near = nearOf end list in
       cond (said .done)
-      (cond (isBeside links values near (said .slot)) (beside near (said .slot) (said .free)) (pushedWith (refusedPush list free) links values))
-      (pushedWith (refusedPush list free) links values)
+      (cond (isBeside links values near (said .slot)) (pushedBeside near (said .slot) (said .free)) (notPushed links values list free value))
+      (notPushed links values list free value)
 
   -- 01: "both pushes test the tail only"
-  unfoldable pub pushOf : PushedWith
+  unfoldable pub pushOf : Outcome Pushed
   pushOf = cond (eqb (list .tail) nullSlot) (pushEmptyOf links values list free value) pushBesideOf
 
 -- ---- pop
 
+-- 01: "A refused pop returns value 0"
 abbrev pub refusedPop : Entry → Free → Popped
 refusedPop list free = record { done = false; value = 0; entry = list; free = free }
 
--- an answer with both slices as they are left
-pub record PoppedWith : Type 0 where
-  pub answer : Popped
-  pub links : List ℕ
-  pub values : List ℕ
-
-abbrev pub poppedWith : Popped → List ℕ → List ℕ → PoppedWith
-poppedWith answer links values = record { answer = answer; links = links; values = values }
-
 -- a slot that held `value` was released, and the list is `list` then
-abbrev pub left : ℕ → Entry → ReleasedWith → PoppedWith
-left value list gone = poppedWith (record { done = gone .answer .done; value = value; entry = list; free = gone .answer .free }) (gone .links) (gone .values)
+abbrev pub donePop : ℕ → Entry → Released → Popped
+donePop value list freed = record { done = freed .done; value = value; entry = list; free = freed .free }
+
+abbrev pub handedOut : ℕ → Entry → Outcome Released → Outcome Popped
+handedOut value list gone = outcome (donePop value list (gone .answer)) (gone .links) (gone .values)
 
 -- 01: "the neighbour's link is XORed with the slot that left"
-abbrev pub unlinked : ℕ → ℕ → ReleasedWith → ReleasedWith
-unlinked near slot gone = releasedWith (gone .answer) (set (gone .links) near (bitXor (cell (gone .links) near) slot)) (gone .values)
+abbrev pub unlinked : ℕ → ℕ → Outcome Released → Outcome Released
+unlinked near slot gone = outcome (gone .answer) (set (gone .links) near (bitXor (cell (gone .links) near) slot)) (gone .values)
 
 module _ (end : End) (links values : List ℕ) (list : Entry) (free : Free) where
+  -- a refusal, and the cells as they were
+  abbrev pub notPopped : Outcome Popped
+  notPopped = outcome (refusedPop list free) links values
+
   -- `slot`, the only one of its list, leaves. 01: "a pop that reads link 0 sets head and tail to 0"
-  abbrev pub lastLeaves : ℕ → PoppedWith
-  lastLeaves slot = left (cell values slot) (withBoth nullSlot list) (releaseOf links values slot free)
+  abbrev pub lastLeaves : ℕ → Outcome Popped
+  lastLeaves slot = handedOut (cell values slot) (emptied list) (releaseOf links values slot free)
 
   -- `slot` leaves, and `near` stands at the end then
-  abbrev pub endLeaves : ℕ → ℕ → PoppedWith
-  endLeaves slot near = left (cell values slot) (withNear end near list) (unlinked near slot (releaseOf links values slot free))
+  abbrev pub endLeaves : ℕ → ℕ → Outcome Popped
+  endLeaves slot near = handedOut (cell values slot) (withNear end near list) (unlinked near slot (releaseOf links values slot free))
 
-  unfoldable pub popOf : PoppedWith
+  unfoldable pub popOf : Outcome Popped
   popOf =
       let slot = nearOf end list in
       let near = cell links slot in
       cond (inPool links values slot)
       (cond (eqb near nullSlot) (lastLeaves slot)
-      (cond (isBeside links values near slot) (endLeaves slot near) (poppedWith (refusedPop list free) links values)))
-      (poppedWith (refusedPop list free) links values)
+      (cond (isBeside links values near slot) (endLeaves slot near) notPopped))
+      notPopped

@@ -2,9 +2,11 @@
 use books::Book;
 use books::Entry;
 use books::Free;
+use slots::Released;
 use slots::Taken;
 ghost use mathlib.Core.Path.{_≡_};
-ghost use Rattle.lists.specs.Model.{nearOf, withNear, withBoth, isBeside, newOf, refusedPush, pushedWith, pushEmptyOf, pushBesideOf, pushOf, refusedPop, poppedWith, popOf};
+ghost use Rattle.books.specs.Outcome.{outcome};
+ghost use Rattle.lists.specs.Model.{newOf, nearOf, withNear, withBoth, emptied, isBeside, donePush, refusedPush, pushEmptyOf, pushBesideOf, pushOf, donePop, refusedPop, popOf};
 
 // The end of a list at which a step works.
 pub enum End {
@@ -32,14 +34,15 @@ pub fn new(share: u16, limit: u16) -> Entry
     ensures { λ r. ⌜ r ≡ newOf share limit ⌝ }
 {
     Entry {
-        head: 0,
-        tail: 0,
+        head: Book::NULL,
+        tail: Book::NULL,
         share,
         limit,
     }
 }
 
 // The first value of an empty list: its slot has link 0 and is both ends.
+// Refused on a list that has a tail, or where no slot can be taken; nothing changes then.
 pub fn push_empty_case(
     links: &mut [u16],
     values: &mut [u64],
@@ -47,7 +50,7 @@ pub fn push_empty_case(
     free: Free,
     value: u64,
 ) -> Pushed
-    ensures { λ r. ⌜ pushedWith r (now (links .exit)) (now (values .exit)) ≡ pushEmptyOf (now (links .entry)) (now (values .entry)) list free value ⌝ }
+    ensures { λ r. ⌜ outcome r (now (links .exit)) (now (values .exit)) ≡ pushEmptyOf (now (links .entry)) (now (values .entry)) list free value ⌝ }
 {
     if list.tail != Book::NULL {
         return refused_push(list, free);
@@ -56,15 +59,12 @@ pub fn push_empty_case(
         return refused_push(list, free);
     };
     let i = slot as usize;
-    links[i] = 0;
+    links[i] = Book::NULL;
     values[i] = value;
-    Pushed {
-        done: true,
-        entry: with_both(slot, list),
-        free: rest,
-    }
+    done_push(with_both(slot, list), rest)
 }
 
+// Refused where no slot can be taken, or where the end slot is no slot or is the taken one; nothing changes then.
 pub fn push_back(
     links: &mut [u16],
     values: &mut [u64],
@@ -72,23 +72,26 @@ pub fn push_back(
     free: Free,
     value: u64,
 ) -> Pushed
-    ensures { λ r. ⌜ pushedWith r (now (links .exit)) (now (values .exit)) ≡ pushOf End.Back (now (links .entry)) (now (values .entry)) list free value ⌝ }
+    ensures { λ r. ⌜ outcome r (now (links .exit)) (now (values .exit)) ≡ pushOf End.Back (now (links .entry)) (now (values .entry)) list free value ⌝ }
 {
     push(links, values, End::Back, list, free, value)
 }
 
+// Refused where the end slot is no slot, or where its neighbour is neither null nor another slot; nothing changes then.
 pub fn pop_back(links: &mut [u16], values: &mut [u64], list: Entry, free: Free) -> Popped
-    ensures { λ r. ⌜ poppedWith r (now (links .exit)) (now (values .exit)) ≡ popOf End.Back (now (links .entry)) (now (values .entry)) list free ⌝ }
+    ensures { λ r. ⌜ outcome r (now (links .exit)) (now (values .exit)) ≡ popOf End.Back (now (links .entry)) (now (values .entry)) list free ⌝ }
 {
     pop(links, values, End::Back, list, free)
 }
 
+// Refused as `pop_back` is, at the other end.
 pub fn pop_front(links: &mut [u16], values: &mut [u64], list: Entry, free: Free) -> Popped
-    ensures { λ r. ⌜ poppedWith r (now (links .exit)) (now (values .exit)) ≡ popOf End.Front (now (links .entry)) (now (values .entry)) list free ⌝ }
+    ensures { λ r. ⌜ outcome r (now (links .exit)) (now (values .exit)) ≡ popOf End.Front (now (links .entry)) (now (values .entry)) list free ⌝ }
 {
     pop(links, values, End::Front, list, free)
 }
 
+// Refused as `push_back` is, at the other end.
 pub fn push_front(
     links: &mut [u16],
     values: &mut [u64],
@@ -96,7 +99,7 @@ pub fn push_front(
     free: Free,
     value: u64,
 ) -> Pushed
-    ensures { λ r. ⌜ pushedWith r (now (links .exit)) (now (values .exit)) ≡ pushOf End.Front (now (links .entry)) (now (values .entry)) list free value ⌝ }
+    ensures { λ r. ⌜ outcome r (now (links .exit)) (now (values .exit)) ≡ pushOf End.Front (now (links .entry)) (now (values .entry)) list free value ⌝ }
 {
     push(links, values, End::Front, list, free, value)
 }
@@ -131,13 +134,25 @@ fn with_near(end: End, slot: u16, list: Entry) -> Entry
     }
 }
 
-// The list with one slot at both ends, or none at both.
+// The list with one slot at both ends.
 fn with_both(both: u16, list: Entry) -> Entry
     ensures { λ r. ⌜ r ≡ withBoth both list ⌝ }
 {
     Entry {
         head: both,
         tail: both,
+        share: list.share,
+        limit: list.limit,
+    }
+}
+
+// The list with no slot at either end.
+fn emptied(list: Entry) -> Entry
+    ensures { λ r. ⌜ r ≡ emptied list ⌝ }
+{
+    Entry {
+        head: 0,
+        tail: 0,
         share: list.share,
         limit: list.limit,
     }
@@ -151,6 +166,16 @@ fn is_beside(links: &[u16], values: &[u64], near: u16, slot: u16) -> bool
         return false;
     }
     slots::in_pool(links, values, near)
+}
+
+fn done_push(list: Entry, free: Free) -> Pushed
+    ensures { λ r. ⌜ r ≡ donePush list free ⌝ }
+{
+    Pushed {
+        done: true,
+        entry: list,
+        free,
+    }
 }
 
 fn refused_push(list: Entry, free: Free) -> Pushed
@@ -174,6 +199,19 @@ fn refused_pop(list: Entry, free: Free) -> Popped
     }
 }
 
+// The value of a slot that was released, with the list as it is then.
+fn handed_out(value: u64, list: Entry, freed: Released) -> Popped
+    ensures { λ r. ⌜ r ≡ donePop value list freed ⌝ }
+{
+    let rest = freed.free;
+    Popped {
+        done: freed.done,
+        value,
+        entry: list,
+        free: rest,
+    }
+}
+
 // A value at an end. Both ends test the tail alone.
 fn push(
     links: &mut [u16],
@@ -183,7 +221,7 @@ fn push(
     free: Free,
     value: u64,
 ) -> Pushed
-    ensures { λ r. ⌜ pushedWith r (now (links .exit)) (now (values .exit)) ≡ pushOf end (now (links .entry)) (now (values .entry)) list free value ⌝ }
+    ensures { λ r. ⌜ outcome r (now (links .exit)) (now (values .exit)) ≡ pushOf end (now (links .entry)) (now (values .entry)) list free value ⌝ }
 {
     if list.tail == Book::NULL {
         push_empty_case(links, values, list, free, value)
@@ -201,7 +239,7 @@ fn push_beside(
     free: Free,
     value: u64,
 ) -> Pushed
-    ensures { λ r. ⌜ pushedWith r (now (links .exit)) (now (values .exit)) ≡ pushBesideOf end (now (links .entry)) (now (values .entry)) list free value ⌝ }
+    ensures { λ r. ⌜ outcome r (now (links .exit)) (now (values .exit)) ≡ pushBesideOf end (now (links .entry)) (now (values .entry)) list free value ⌝ }
 {
     let Taken::Slot(slot, rest) = slots::take(links, values, free) else {
         return refused_push(list, free);
@@ -215,16 +253,12 @@ fn push_beside(
     links[j] = links[j] ^ slot;
     links[i] = near;
     values[i] = value;
-    Pushed {
-        done: true,
-        entry: with_near(end, slot, list),
-        free: rest,
-    }
+    done_push(with_near(end, slot, list), rest)
 }
 
 // The slot at an end leaves the list. All tests stand before the first store.
 fn pop(links: &mut [u16], values: &mut [u64], end: End, list: Entry, free: Free) -> Popped
-    ensures { λ r. ⌜ poppedWith r (now (links .exit)) (now (values .exit)) ≡ popOf end (now (links .entry)) (now (values .entry)) list free ⌝ }
+    ensures { λ r. ⌜ outcome r (now (links .exit)) (now (values .exit)) ≡ popOf end (now (links .entry)) (now (values .entry)) list free ⌝ }
 {
     let old = near_of(end, list);
     if !slots::in_pool(links, values, old) {
@@ -235,25 +269,13 @@ fn pop(links: &mut [u16], values: &mut [u64], end: End, list: Entry, free: Free)
     let value = values[i];
     if near == Book::NULL {
         let freed = slots::release(links, values, old, free);
-        let rest = freed.free;
-        return Popped {
-            done: freed.done,
-            value,
-            entry: with_both(0, list),
-            free: rest,
-        };
+        return handed_out(value, emptied(list), freed);
     }
     if !is_beside(links, values, near, old) {
         return refused_pop(list, free);
     }
     let freed = slots::release(links, values, old, free);
-    let rest = freed.free;
     let j = books::wide(near);
     links[j] = links[j] ^ old;
-    Popped {
-        done: freed.done,
-        value,
-        entry: with_near(end, near, list),
-        free: rest,
-    }
+    handed_out(value, with_near(end, near, list), freed)
 }

@@ -5,6 +5,7 @@ use Prim.Native.Nat.{ℕ}
 use lib.ListN.{set}
 use Rattle.books.specs.declared.Free.{Free}
 use Rattle.books.specs.Book.{nullSlot, wipeWord}
+use Rattle.books.specs.Outcome.{Outcome, outcome}
 use Rattle.chains.specs.Chain.{cell}
 use Rattle.slots.specs.declared.Taken.{Taken}
 use Rattle.slots.specs.declared.Taken.the-variants.{Slot, Nothing}
@@ -29,18 +30,9 @@ takeOf links values free =
     (record { done = true; slot = free .head; free = record { head = cell links (free .head) } })
     (record { done = false; slot = nullSlot; free = free })
 
--- an answer with both slices as they are left
-pub record ReleasedWith : Type 0 where
-  pub answer : Released
-  pub links : List ℕ
-  pub values : List ℕ
-
-abbrev pub releasedWith : Released → List ℕ → List ℕ → ReleasedWith
-releasedWith answer links values = record { answer = answer; links = links; values = values }
-
 -- 01: "The slot's value becomes 0 and the slot becomes the free head, its link the old free head"
-unfoldable pub releaseOf : List ℕ → List ℕ → ℕ → Free → ReleasedWith
+unfoldable pub releaseOf : List ℕ → List ℕ → ℕ → Free → Outcome Released
 releaseOf links values slot free =
     cond (inPool links values slot)
-    (releasedWith (record { done = true; free = record { head = slot } }) (set links slot (free .head)) (set values slot wipeWord))
-    (releasedWith (record { done = false; free = free }) links values)
+    (outcome (record { done = true; free = record { head = slot } }) (set links slot (free .head)) (set values slot wipeWord))
+    (outcome (record { done = false; free = free }) links values)

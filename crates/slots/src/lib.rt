@@ -3,7 +3,8 @@ use books::Book;
 use books::Free;
 ghost use mathlib.Core.Path.{_≡_};
 ghost use Rattle.slots.specs.Slot.{inPool};
-ghost use Rattle.slots.specs.Model.{saidBy, takeOf, releasedWith, releaseOf};
+ghost use Rattle.books.specs.Outcome.{outcome};
+ghost use Rattle.slots.specs.Model.{saidBy, takeOf, releaseOf};
 
 // A slot with the idle chain that is left, or none.
 pub enum Taken {
@@ -31,7 +32,7 @@ pub fn in_pool(links: &[u16], values: &[u64], slot: u16) -> bool
     i < values.len()
 }
 
-// The slot at the free head. Its cells stay as they are: who takes it stores what it holds.
+// The slot at the free head, or none where that is no slot. Its cells stay as they are: who takes it stores what it holds.
 pub fn take(links: &[u16], values: &[u64], free: Free) -> Taken
     ensures { λ r. ⌜ saidBy free r ≡ takeOf (now (links .entry)) (now (values .entry)) free ⌝ }
 {
@@ -45,8 +46,9 @@ pub fn take(links: &[u16], values: &[u64], free: Free) -> Taken
 }
 
 // The slot's own value is wiped, and the slot becomes the free head, its link the old one.
+// A number that is no slot is refused, and nothing changes.
 pub fn release(links: &mut [u16], values: &mut [u64], slot: u16, free: Free) -> Released
-    ensures { λ r. ⌜ releasedWith r (now (links .exit)) (now (values .exit)) ≡ releaseOf (now (links .entry)) (now (values .entry)) slot free ⌝ }
+    ensures { λ r. ⌜ outcome r (now (links .exit)) (now (values .exit)) ≡ releaseOf (now (links .entry)) (now (values .entry)) slot free ⌝ }
 {
     if in_pool(links, values, slot) {
         let i = slot as usize;

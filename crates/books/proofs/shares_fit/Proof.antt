@@ -9,7 +9,7 @@ use lib.Seq.{length-take-le, getD-take}
 use borrow.Author.Needs.{needs}
 use borrow.Author.Tests.{not-true, not-false}
 use Rattle.books.specs.declared.Entry.{Entry}
-use Rattle.books.specs.Book.{nothing, entryAt}
+use Rattle.books.specs.Book.{zeroEntry, entryAt}
 use Rattle.books.specs.Test.{isFair, gather}
 use Rattle.books.proofs.Rules.{gather-at, gather-end}
 use Rattle.books.proofs.shares_fit.Statement.{statement}
@@ -36,7 +36,7 @@ turn : (c : tie.In-loop Inv-loop μ-loop)
     ≡ isFair (c .before .before .args .size) (entryAt (c .before .before .args .t1) (c .before .loop .k))
     && gather (c .before .before .args .size) (drop (c .before .loop .k + 1) (used (c .before .before))) (c .before .loop .sum + entryAt (c .before .before .args .t1) (c .before .loop .k) .share)
 turn c =
-    rw (← getD-take (c .before .before .args .count) (c .before .before .args .t1) (c .before .loop .k) nothing (omega arith))
+    rw (← getD-take (c .before .before .args .count) (c .before .before .args .t1) (c .before .loop .k) zeroEntry (omega arith))
     (gather-at (c .before .before .args .size) (used (c .before .before)) (c .before .loop .k) (c .before .loop .sum) (inside c))
 
 returns : tie.Need-returns Inv-loop μ-loop

@@ -42,7 +42,8 @@ returns-2 : tie.Need-returns-2
 unfolding popOf
 returns-2 c =
     simp (
-      c .with-both .ensures,
+      c .handed-out .ensures,
+      c .before .emptied .ensures,
       ← c .before .before .before .before .before .before .before .before .before .before .before .before .before .before .before .before .near-of .ensures,
       ← c .before .before .before .before .before .before .before .before .before .before .before .before .before .in-pool .ensures,
       not-false (c .before .before .before .before .before .before .before .before .before .before .before .before .before .in-pool .result) (c .before .before .before .before .before .before .before .before .before .before .before .before .if1 .left),
@@ -64,14 +65,15 @@ returns-3 c =
     )
 
 -- its cell is still there after the release
-there : (c : tie.After-slice-known9) → c .before .wide .result < length (c .before .before .before .before .before .before .before .release2 .last .0)
-there c = omega (arith, near (c .before .before .before .before .before .before .before .before .before .before) .hasLink, c .before .before .before .before .before .before .before .release2 .kept .0, c .before .wide .ensures .0)
+there : (c : tie.After-slice-known9) → c .before .wide .result < length (c .before .before .before .before .before .before .release2 .last .0)
+there c = omega (arith, near (c .before .before .before .before .before .before .before .before .before) .hasLink, c .before .before .before .before .before .before .release2 .kept .0, c .before .wide .ensures .0)
 
 returns-4 : tie.Need-returns-4
 unfolding popOf
 returns-4 c =
     simp (
-      c .with-near .ensures,
+      c .handed-out2 .ensures,
+      c .before .with-near .ensures,
       ← c .before .before .before .before .before .before .before .before .before .before .before .before .before .before .before .before .before .before .before .before .before .before .near-of .ensures,
       ← c .before .before .before .before .before .before .before .before .before .before .before .before .before .before .before .before .before .before .before .in-pool .ensures,
       not-false (c .before .before .before .before .before .before .before .before .before .before .before .before .before .before .before .before .before .before .before .in-pool .result) (c .before .before .before .before .before .before .before .before .before .before .before .before .before .before .before .before .before .before .if1 .left),
@@ -79,7 +81,7 @@ returns-4 c =
       ← c .before .before .before .before .before .before .before .before .before .before .before .before .is-beside .ensures,
       not-false (c .before .before .before .before .before .before .before .before .before .before .before .before .is-beside .result) (c .before .before .before .before .before .before .before .before .before .before .before .if3 .left),
       ← c .before .before .before .before .before .before .before .before .release2 .ensures,
-      c .before .before .wide .ensures .0,
+      c .before .before .before .wide .ensures .0,
     )
 
 pub pop-spec : {M : Type 1} → statement M
@@ -101,6 +103,7 @@ pop-spec =
     (λ c. search needs)
     (λ c. search needs)
     (λ c. search needs)
+    (λ c. search needs)
     returns-2
     (λ c. search needs)
     (λ c. search needs)
@@ -113,6 +116,7 @@ pop-spec =
     there
     (λ c. search needs)
     there
+    (λ c. search needs)
     (λ c. search needs)
     (λ c. search needs)
     (λ c. search needs)

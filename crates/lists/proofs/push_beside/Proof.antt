@@ -26,7 +26,7 @@ taken : (c : tie.After-known-told)
 taken c = ap (saidBy (start c .args .free)) (sym (c .before .slot .given .1)) ∙ c .before .before .before .take .ensures
 
 inside : (c : tie.After-known-told) → InPool (now (start c .args .links)) (now (start c .args .values)) (slot c)
-inside c = take-slot (now (start c .args .links)) (now (start c .args .values)) (start c .args .free) _ _ (taken c) .1
+inside c = take-slot (now (start c .args .links)) (now (start c .args .values)) (start c .args .free) _ _ (taken c) .2
 
 abbrev told : tie.Else1 → tie.After-known-told
 told c = c .before .before .before .before .before
@@ -58,11 +58,12 @@ returns-3 : tie.Need-returns-3
 unfolding pushBesideOf
 returns-3 c =
     simp (
-      c .with-near .ensures,
-      ← taken (c .before .before .before .before .before .before .before),
-      ← c .before .before .before .before .before .before .near-of .ensures,
-      ← c .before .before .before .is-beside .ensures,
-      not-false (c .before .before .before .is-beside .result) (c .before .before .if1 .left),
+      c .done-push .ensures,
+      c .before .with-near .ensures,
+      ← taken (c .before .before .before .before .before .before .before .before),
+      ← c .before .before .before .before .before .before .before .near-of .ensures,
+      ← c .before .before .before .before .is-beside .ensures,
+      not-false (c .before .before .before .before .is-beside .result) (c .before .before .before .if1 .left),
     )
 
 pub push-beside-spec : {M : Type 1} → statement M
@@ -92,6 +93,7 @@ push-beside-spec =
     (λ c. simp length-set (inside (told (c .before)) .hasLink))
     (λ c. search needs)
     (λ c. inside (told (c .before)) .hasValue)
+    (λ c. search needs)
     (λ c. search needs)
     (λ c. search needs)
     (λ c. search needs)

@@ -21,7 +21,7 @@ taken : (c : tie.After-known-told)
 taken c = ap (saidBy (start c .args .free)) (sym (c .before .slot .given .1)) ∙ c .before .before .before .take .ensures
 
 inside : (c : tie.After-known-told) → InPool (now (start c .args .links)) (now (start c .args .values)) (c .before .slot .given .0 .0)
-inside c = take-slot (now (start c .args .links)) (now (start c .args .values)) (start c .args .free) _ _ (taken c) .1
+inside c = take-slot (now (start c .args .links)) (now (start c .args .values)) (start c .args .free) _ _ (taken c) .2
 
 returns : tie.Need-returns
 unfolding pushEmptyOf
@@ -40,7 +40,8 @@ returns-2 c =
 returns-3 : tie.Need-returns-3
 unfolding pushEmptyOf
 returns-3 c =
-    simp (c .with-both .ensures, eq-eqb _ _ (c .before .before .before .before .before .before .before .if1 .left), ← taken (c .before))
+    simp
+    (c .done-push .ensures, c .before .with-both .ensures, eq-eqb _ _ (c .before .before .before .before .before .before .before .before .if1 .left), ← taken (c .before .before))
 
 pub push-empty-case-spec : {M : Type 1} → statement M
 push-empty-case-spec =
@@ -60,6 +61,7 @@ push-empty-case-spec =
     (λ c. inside c .hasLink)
     (λ c. search needs)
     (λ c. inside c .hasValue)
+    (λ c. search needs)
     (λ c. search needs)
     (λ c. search needs)
     (λ c. search needs)

@@ -29,7 +29,7 @@ release-spec =
     (λ c. search needs)
     (λ c. search needs)
     (λ c. inside c .hasLink)
-    (λ c. search needs)
+    (λ w. search needs)
     (λ c. inside c .hasValue)
     (λ c. search needs)
     (λ c. search needs)

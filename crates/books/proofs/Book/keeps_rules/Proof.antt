@@ -33,7 +33,7 @@ returns-4 c =
       le-leb _ _ (eight (c .before .before .before)),
       ← c .before .before .shares-fit .ensures,
       not-false (c .before .before .shares-fit .result) (c .before .if3 .left),
-      c .rest-nothing .ensures,
+      c .rest-zero .ensures,
     )
 
 pub keeps-rules-spec : {M : Type 1} → statement M

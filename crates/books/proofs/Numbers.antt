@@ -1,0 +1,30 @@
+-- Document 01's numbers, computed: the constants, the sizes that it tries, and the all-zero book word by word.
+use mathlib.Core.Path.{_≡_, refl}
+use mathlib.Core.Bool.{true, false}
+use mathlib.Core.List.{List}
+use Prim.Native.Nat.{ℕ}
+use lib.ListN.{replicate}
+use Rattle.books.specs.Book.{nullSlot, wipeWord, mostLists, zeroBook, wordsOf}
+use Rattle.books.specs.Outcome.{outcome}
+use Rattle.books.specs.Test.{sizeFits}
+
+pub null-is : nullSlot ≡ 0
+null-is = refl
+
+pub wipe-is : wipeWord ≡ 0
+wipe-is = refl
+
+pub eight-lists : mostLists ≡ 8
+eight-lists = refl
+
+-- 01: "N = 1 gives 1, N = 2 gives 0, N = 4,096 gives 0, N = 4,097 gives 1"
+pub sizes-tried : (sizeFits 1 ≡ false) × (sizeFits 2 ≡ true) × (sizeFits 4096 ≡ true) × (sizeFits 4097 ≡ false)
+sizes-tried = (refl, refl, refl, refl)
+
+pub zero-words : wordsOf zeroBook ≡ replicate 34 0
+zero-words = refl
+
+-- an outcome is the answer and the two slices, and nothing is lost
+pub outcome-plain : {A : Type 0} (answer : A) (links values : List ℕ)
+    → (outcome answer links values .answer ≡ answer) × (outcome answer links values .links ≡ links) × (outcome answer links values .values ≡ values)
+outcome-plain answer links values = (refl, refl, refl)
