@@ -2,3 +2,5 @@
 pub mod Slot
 pub mod Model
 pub mod Meaning
+pub mod Met
+pub mod Walk

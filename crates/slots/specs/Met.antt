@@ -1,0 +1,23 @@
+-- The record of slots met: one byte a slot, 0 where the slot was not met. A slot that the record has no place for counts as met.
+use mathlib.Core.Bool.{Bool, not}
+use mathlib.Core.List.{List, [], _∷_}
+use Prim.Native.Nat.{ℕ, zero, suc}
+use lib.Dec.{eqb}
+use lib.ListN.{getD, set}
+
+unfoldable pub isMetOf : List ℕ → ℕ → Bool
+isMetOf met slot = not (eqb (getD met slot 1) 0)
+
+unfoldable pub markOf : List ℕ → ℕ → List ℕ
+markOf met slot = set met slot 1
+
+-- the slots of a sequence are marked, one after the other
+abbrev pub markAll : List ℕ → List ℕ → List ℕ
+markAll met [] = met
+markAll met (x ∷ xs) = markAll (markOf met x) xs
+
+-- how many slots the record still has to meet
+unfoldable pub unmet : List ℕ → ℕ
+unmet [] = 0
+unmet (zero ∷ met) = suc (unmet met)
+unmet (suc b ∷ met) = unmet met

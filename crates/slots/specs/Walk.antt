@@ -1,0 +1,43 @@
+-- A walk along a chain: which slots it passes, and whether it came to the end. One definition for the live chains and the idle chain.
+use mathlib.Core.Bool.{Bool, true, false, cond, not, _&&_}
+use mathlib.Core.List.{List, [], _∷_}
+use Prim.Native.Nat.{ℕ, zero, suc}
+use lib.Dec.{ltb, eqb}
+use lib.ListN.{length}
+use Rattle.books.specs.Book.{nullSlot, wipeWord}
+use Rattle.chains.specs.Chain.{cell}
+use Rattle.slots.specs.Met.{isMetOf, markOf, unmet}
+
+-- the slots that were passed, and whether the next one was null
+pub record Path : Type 0 where
+  pub ok : Bool
+  pub slots : List ℕ
+
+abbrev pub passing : ℕ → Path → Path
+passing slot path = record { ok = path .ok; slots = slot ∷ path .slots }
+
+-- `onward p v` is the slot after one whose link is v and that has p before it.
+-- From `slot`, with `before` before it: a slot of N or more, or one that was met, is not passed. Each step marks a slot, so `steps` never run out
+unfoldable pub walkOn : (onward : ℕ → ℕ → ℕ) (links : List ℕ) → ℕ → List ℕ → ℕ → ℕ → Path
+walkOn onward links zero met before slot = record { ok = false; slots = [] }
+walkOn onward links (suc steps) met before slot =
+    cond (eqb slot nullSlot)
+    (record { ok = true; slots = [] })
+    (cond (ltb slot (length links) && not (isMetOf met slot))
+    (passing slot (walkOn onward links steps (markOf met slot) slot (onward before (cell links slot))))
+    (record { ok = false; slots = [] }))
+
+abbrev pub walkFrom : (onward : ℕ → ℕ → ℕ) → List ℕ → List ℕ → ℕ → Path
+walkFrom onward links met head = walkOn onward links (suc (unmet met)) met nullSlot head
+
+-- of the idle chain, the slot after is the link itself
+abbrev pub idleOnward : ℕ → ℕ → ℕ
+idleOnward before link = link
+
+-- the lowest slot of a sequence whose value is not the wipe word, or 0
+abbrev pub lower : ℕ → ℕ → ℕ
+lower slot least = cond (eqb least nullSlot) slot (cond (ltb slot least) slot least)
+
+abbrev pub unwipedFrom : List ℕ → List ℕ → ℕ → ℕ
+unwipedFrom values [] least = least
+unwipedFrom values (x ∷ xs) least = unwipedFrom values xs (cond (eqb (cell values x) wipeWord) least (lower x least))
