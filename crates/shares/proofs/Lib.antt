@@ -1,0 +1,4 @@
+-- Laws of the shares: a sound pool has one shape, and each step on it keeps it sound.
+pub mod Shape
+pub mod Kept
+pub mod Steps

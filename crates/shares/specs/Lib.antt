@@ -1,0 +1,2 @@
+-- What a reader of the shares believes: what a sound pool is.
+pub mod Sound
