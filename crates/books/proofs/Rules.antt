@@ -134,4 +134,5 @@ rules-hold size places lists es = (to, from)
         inside l b (no c) = absurd (omega (arith, length-take lists es))
 
 pub keeps-rules : (size : ℕ) (b : Book) → keepsRules size b ≡ true ↔ BookRules size b
+unfolding keepsRules
 keeps-rules size b = rules-hold size mostLists (b .lists) (b .entries)

@@ -30,5 +30,5 @@ abbrev pub rulesHold : ℕ → ℕ → ℕ → List Entry → Bool
 rulesHold size places lists es = leb 1 lists && (leb lists places && (gather size (take lists es) 0 && allZero (drop lists es)))
 
 -- the book of eight entries; the law `keeps-rules` says that it is true exactly where `BookRules` holds
-abbrev pub keepsRules : ℕ → Book → Bool
+unfoldable pub keepsRules : ℕ → Book → Bool
 keepsRules size b = rulesHold size mostLists (b .lists) (b .entries)

@@ -2,3 +2,5 @@
 pub mod Shape
 pub mod Kept
 pub mod Steps
+pub mod Fill
+pub mod Size

@@ -1,2 +1,4 @@
--- What a reader of the shares believes: what a sound pool is.
+-- What a reader of the shares believes: what a sound pool is, and what each call gives.
 pub mod Sound
+pub mod Size
+pub mod Setup

@@ -3,6 +3,7 @@ use Prim.Native.Nat.{_≤_}
 use native.Mathlib.Omega.{arith}
 use borrow.Author.Needs.{needs}
 use borrow.Author.Tests.{le-leb, lt-leb, not-true, not-false}
+use Rattle.books.specs.Test.{keepsRules}
 use Rattle.books.proofs.Book.keeps_rules.Statement.{statement}
 use Rattle.books.proofs.Book.keeps_rules.Tie as tie
 
@@ -17,16 +18,20 @@ eight : (c : tie.Else2) → start c .args .self .lists ≤ 8
 eight c = omega arith
 
 returns : tie.Need-returns
+unfolding keepsRules
 returns c = simp (c .if1 .taken)
 
 returns-2 : tie.Need-returns-2
+unfolding keepsRules
 returns-2 c = simp (le-leb 1 (c .before .before .before .args .self .lists) (omega arith), lt-leb _ _ (c .if2 .taken))
 
 returns-3 : tie.Need-returns-3
+unfolding keepsRules
 returns-3 c =
     simp (le-leb _ _ (one (c .before .before)), le-leb _ _ (eight (c .before .before)), ← c .before .shares-fit .ensures, not-true (c .before .shares-fit .result) (c .if3 .taken))
 
 returns-4 : tie.Need-returns-4
+unfolding keepsRules
 returns-4 c =
     simp (
       le-leb _ _ (one (c .before .before .before)),

@@ -1,0 +1,61 @@
+-- `shares::setup::setup`: what it answers and stores follows from the two tests and from what the fills promise.
+use mathlib.Core.Path.{_≡_, sym, _∙_}
+use Prim.Native.Nat.{_≤_}
+use native.Mathlib.Omega.{arith}
+use lib.ListN.{length}
+use denote.Ref.{now}
+use borrow.Author.Needs.{needs}
+use borrow.Author.Tests.{not-true, not-false}
+use Rattle.shares.specs.Size.{SizesFit}
+use Rattle.shares.specs.Setup.{setupOf}
+use Rattle.shares.proofs.Size.{sizes-fit}
+use Rattle.shares.proofs.setup.setup.Statement.{statement}
+use Rattle.shares.proofs.setup.setup.Tie as tie
+
+-- past the first test the sizes fit
+fits : (c : tie.Else1) → SizesFit (length (now (c .before .before .before .before .args .links))) (length (now (c .before .before .before .before .args .values)))
+fits c = sizes-fit _ _ .0 (sym (c .before .sizes-fit .ensures) ∙ not-false (c .before .sizes-fit .result) (c .if1 .left))
+
+returns : tie.Need-returns
+unfolding setupOf
+returns c = simp (c .refused .ensures, ← c .before .before .sizes-fit .ensures, not-true (c .before .before .sizes-fit .result) (c .before .if1 .taken))
+
+returns-2 : tie.Need-returns-2
+unfolding setupOf
+returns-2 c =
+    simp
+    (c .refused2 .ensures,
+    ← c .before .before .before .before .before .sizes-fit .ensures,
+    not-false (c .before .before .before .before .before .sizes-fit .result) (c .before .before .before .before .if1 .left),
+    ← c .before .before .before .fresh-book .ensures,
+    ← c .before .before .keeps-rules .ensures,
+    not-true (c .before .before .keeps-rules .result) (c .before .if2 .taken))
+
+returns-3 : tie.Need-returns-3
+unfolding setupOf
+returns-3 c =
+    simp
+    (c .before .before .fresh-values .ensures,
+    c .before .before .before .before .before .before .fresh-links .ensures,
+    ← c .before .before .before .before .before .before .before .before .before .before .before .before .sizes-fit .ensures,
+    not-false (c .before .before .before .before .before .before .before .before .before .before .before .before .sizes-fit .result) (c .before .before .before .before .before .before .before .before .before .before .before .if1 .left),
+    ← c .before .before .before .before .before .before .before .before .before .before .fresh-book .ensures,
+    ← c .before .before .before .before .before .before .before .before .before .keeps-rules .ensures,
+    not-false (c .before .before .before .before .before .before .before .before .before .keeps-rules .result) (c .before .before .before .before .before .before .before .before .if2 .left))
+
+pub setup-spec : {M : Type 1} → statement M
+setup-spec =
+    tie.close
+    (tie.spec
+    (λ c. search needs)
+    (λ c. search needs)
+    returns
+    (λ c. search needs)
+    (λ c. search needs)
+    (λ c. search needs)
+    returns-2
+    (λ c κs. fits (c .before .before .before .before) .size .most)
+    (λ c. search needs)
+    (λ c. search needs)
+    (λ c. search needs)
+    returns-3)
