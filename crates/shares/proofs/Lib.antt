@@ -4,3 +4,5 @@ pub mod Kept
 pub mod Steps
 pub mod Fill
 pub mod Size
+pub mod Numbers
+pub mod Fresh

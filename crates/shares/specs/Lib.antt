@@ -1,4 +1,5 @@
 -- What a reader of the shares believes: what a sound pool is, and what each call gives.
 pub mod Sound
 pub mod Size
+pub mod Numbers
 pub mod Setup

@@ -1,5 +1,6 @@
 -- What setup gives, and what it leaves of both slices.
-use mathlib.Core.Bool.{Bool, cond, _&&_}
+use mathlib.Core.Path.{_≡_}
+use mathlib.Core.Bool.{cond, not, _&&_}
 use mathlib.Core.List.{List, [], _∷_}
 use Prim.Native.Nat.{ℕ, zero, suc, _+_}
 use lib.Dec.{ltb, eqb}
@@ -7,11 +8,13 @@ use lib.ListN.{length, getD}
 use Rattle.books.specs.declared.Entry.{Entry}
 use Rattle.books.specs.declared.Book.{Book}
 use Rattle.books.specs.Book.{nullSlot, wipeWord, mostLists, zeroBook}
+use Rattle.books.specs.Rules.{BookRules}
 use Rattle.books.specs.Test.{keepsRules}
 use Rattle.books.specs.Outcome.{Outcome, outcome}
 use Rattle.lists.specs.Model.{newOf}
 use Rattle.shares.specs.declared.Answer.{Answer}
-use Rattle.shares.specs.Size.{sizesFit}
+use Rattle.shares.specs.Size.{SizesFit, sizesFit}
+use Rattle.shares.specs.Numbers.{Test, test, firstThat, Condition, condition}
 
 -- f 0, f 1, and so on, n of them
 unfoldable pub tabulate : {A : Type 0} → ℕ → (ℕ → A) → List A
@@ -41,13 +44,22 @@ freshBook lists shares limits = record { lists = lists; entries = freshEntries s
 abbrev pub answered : ℕ → Book → Answer
 answered number book = record { refusal = record { number = number }; book = book }
 
--- 1, then 2. 01: "a refused setup returns the all-zero book"
-unfoldable pub setupOf : List ℕ → List ℕ → ℕ → List ℕ → List ℕ → Outcome Answer
-setupOf links values lists shares limits =
-    let size = length links in
-    let book = freshBook lists shares limits in
-    cond (sizesFit size (length values))
-    (cond (keepsRules size book)
-    (outcome (answered 0 book) (tabulate size (freshLink size)) (tabulate (length values) freshValue))
-    (outcome (answered 2 zeroBook) links values))
-    (outcome (answered 1 zeroBook) links values)
+-- 01: "a refused setup returns the all-zero book", and "no lent slice changes"
+pub record SetupRefused (links values : List ℕ) (r : Outcome Answer) : Type 0 where
+  pub zero : r .answer .book ≡ zeroBook
+  pub sameLinks : r .links ≡ links
+  pub sameValues : r .values ≡ values
+
+module _ (links values : List ℕ) (lists : ℕ) (shares limits : List ℕ) where
+  -- 1: the sizes; 2: "setup's L, shares or limits break the book rules"
+  abbrev pub setupTests : List Test
+  setupTests = test 1 (not (sizesFit (length links) (length values))) ∷ test 2 (not (keepsRules (length links) (freshBook lists shares limits))) ∷ []
+
+  abbrev pub setupConditions : List Condition
+  setupConditions = condition 1 (SizesFit (length links) (length values) → ⊥) ∷ condition 2 (BookRules (length links) (freshBook lists shares limits) → ⊥) ∷ []
+
+  abbrev pub setUp : Outcome Answer
+  setUp = outcome (answered 0 (freshBook lists shares limits)) (tabulate (length links) (freshLink (length links))) (tabulate (length values) freshValue)
+
+  unfoldable pub setupOf : Outcome Answer
+  setupOf = cond (eqb (firstThat setupTests) 0) setUp (outcome (answered (firstThat setupTests) zeroBook) links values)

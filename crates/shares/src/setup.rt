@@ -1,9 +1,9 @@
 // Setup: every slot from 1 on is idle, in order, and the lists are empty.
+use crate::Answer;
 use books::Book;
 use books::Entry;
 use books::Free;
 use books::Refusal;
-use crate::Answer;
 ghost use mathlib.Core.Path.{_≡_};
 ghost use Prim.Native.Nat.{_≤_, _<_};
 ghost use lib.ListN.{length};

@@ -1,5 +1,5 @@
 -- `shares::setup::fresh_entries`: after each turn the entries so far are new.
-use mathlib.Core.Path.{_≡_, refl}
+use mathlib.Core.Path.{refl}
 use Prim.Native.Nat.{_-_, _≤_}
 use native.Mathlib.Omega.{arith}
 use borrow.Author.Needs.{needs}

@@ -1,8 +1,7 @@
 -- `shares::setup::fresh_values`: after each turn the places so far are filled.
-use mathlib.Core.Path.{_≡_, refl}
+use mathlib.Core.Path.{refl}
 use Prim.Native.Nat.{_-_, _≤_}
 use native.Mathlib.Omega.{arith}
-use lib.ListN.{length, length-set}
 use borrow.Author.Needs.{needs}
 use Rattle.shares.specs.Setup.{freshValue}
 use Rattle.shares.proofs.Fill.{Filling, fill-none, fill-more, fill-all}

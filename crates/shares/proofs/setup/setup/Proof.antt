@@ -1,7 +1,5 @@
 -- `shares::setup::setup`: what it answers and stores follows from the two tests and from what the fills promise.
-use mathlib.Core.Path.{_≡_, sym, _∙_}
-use Prim.Native.Nat.{_≤_}
-use native.Mathlib.Omega.{arith}
+use mathlib.Core.Path.{sym, _∙_}
 use lib.ListN.{length}
 use denote.Ref.{now}
 use borrow.Author.Needs.{needs}
@@ -23,25 +21,27 @@ returns c = simp (c .refused .ensures, ← c .before .before .sizes-fit .ensures
 returns-2 : tie.Need-returns-2
 unfolding setupOf
 returns-2 c =
-    simp
-    (c .refused2 .ensures,
-    ← c .before .before .before .before .before .sizes-fit .ensures,
-    not-false (c .before .before .before .before .before .sizes-fit .result) (c .before .before .before .before .if1 .left),
-    ← c .before .before .before .fresh-book .ensures,
-    ← c .before .before .keeps-rules .ensures,
-    not-true (c .before .before .keeps-rules .result) (c .before .if2 .taken))
+    simp (
+      c .refused2 .ensures,
+      ← c .before .before .before .before .before .sizes-fit .ensures,
+      not-false (c .before .before .before .before .before .sizes-fit .result) (c .before .before .before .before .if1 .left),
+      ← c .before .before .before .fresh-book .ensures,
+      ← c .before .before .keeps-rules .ensures,
+      not-true (c .before .before .keeps-rules .result) (c .before .if2 .taken),
+    )
 
 returns-3 : tie.Need-returns-3
 unfolding setupOf
 returns-3 c =
-    simp
-    (c .before .before .fresh-values .ensures,
-    c .before .before .before .before .before .before .fresh-links .ensures,
-    ← c .before .before .before .before .before .before .before .before .before .before .before .before .sizes-fit .ensures,
-    not-false (c .before .before .before .before .before .before .before .before .before .before .before .before .sizes-fit .result) (c .before .before .before .before .before .before .before .before .before .before .before .if1 .left),
-    ← c .before .before .before .before .before .before .before .before .before .before .fresh-book .ensures,
-    ← c .before .before .before .before .before .before .before .before .before .keeps-rules .ensures,
-    not-false (c .before .before .before .before .before .before .before .before .before .keeps-rules .result) (c .before .before .before .before .before .before .before .before .if2 .left))
+    simp (
+      c .before .before .fresh-values .ensures,
+      c .before .before .before .before .before .before .fresh-links .ensures,
+      ← c .before .before .before .before .before .before .before .before .before .before .before .before .sizes-fit .ensures,
+      not-false (c .before .before .before .before .before .before .before .before .before .before .before .before .sizes-fit .result) (c .before .before .before .before .before .before .before .before .before .before .before .if1 .left),
+      ← c .before .before .before .before .before .before .before .before .before .before .fresh-book .ensures,
+      ← c .before .before .before .before .before .before .before .before .before .keeps-rules .ensures,
+      not-false (c .before .before .before .before .before .before .before .before .before .keeps-rules .result) (c .before .before .before .before .before .before .before .before .if2 .left),
+    )
 
 pub setup-spec : {M : Type 1} → statement M
 setup-spec =
