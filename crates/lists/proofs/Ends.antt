@@ -50,7 +50,7 @@ mirror {links} {values} {list} {free} {xs} {fs} H =
     turned : (y : ℕ) → count y (reverse xs ++ fs) ≡ count y (xs ++ fs)
     turned y = omega (arith, count-append y (reverse xs) fs, count-append y xs fs, count-reverse y xs)
 
-contents-reverse : (values xs : List ℕ) → contents values (reverse xs) ≡ reverse (contents values xs)
+pub contents-reverse : (values xs : List ℕ) → contents values (reverse xs) ≡ reverse (contents values xs)
 contents-reverse values [] = refl
 contents-reverse values (x ∷ xs) =
     ap (contents values) (reverse-cons x xs) ∙ map-append (cell values) (reverse xs) (x ∷ []) ∙ ap (λ zs. zs ++ cell values x ∷ []) (contents-reverse values xs)

@@ -4,4 +4,7 @@ pub mod Ways
 pub mod Steps
 pub mod Front
 pub mod Ends
+pub mod Read
+pub mod Fill
+pub mod Clearing
 pub mod Pools

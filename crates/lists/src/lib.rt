@@ -1,4 +1,7 @@
 // Layer 2: upstream's list over a lent pool, as total steps under upstream's names and in its order (000: `DListXor`).
+pub mod clear;
+pub mod reads;
+
 use books::Book;
 use books::Entry;
 use books::Free;
