@@ -1,11 +1,12 @@
 -- On a sound pool a push is done wherever neither 6 nor 7 applies, a pop wherever the list is not empty, and both leave it sound.
 use mathlib.Core.Path.{_≡_, refl, sym, ap, subst, _∙_}
 use mathlib.Core.Logic.{_≢_, _⊎_, inl, inr}
-use mathlib.Core.List.{List, [], _∷_}
+use mathlib.Core.List.{List, [], _∷_, _++_, reverse}
 use Prim.Native.Nat.{ℕ, suc, _+_, _-_, _≤_, _<_}
+use native.Mathlib.Nat.{eq-zero-or-pos}
 use native.Mathlib.Decide.{ℕ-discrete}
 use native.Mathlib.Omega.{arith}
-use lib.ListN.{length, getD, set, length-append}
+use lib.ListN.{length, getD, set, length-append, length-reverse}
 use borrow.Author.Tests.{eq-eqb, ne-eqb}
 use Rattle.books.specs.declared.Free.{Free}
 use Rattle.books.specs.declared.Entry.{Entry}
@@ -13,7 +14,7 @@ use Rattle.books.specs.Book.{nullSlot, wipeWord, entryAt}
 use Rattle.books.specs.Outcome.{Outcome}
 use Rattle.chains.specs.Count.{hit, count}
 use Rattle.chains.specs.Chain.{cell, lastOr}
-use Rattle.chains.proofs.Count.{count-append, hit-same, hit-other, count-first, count-apart, one-other}
+use Rattle.chains.proofs.Count.{count-append, hit-same, hit-other, count-first, count-apart, one-other, count-reverse}
 use Rattle.chains.proofs.Ends.{first-in, last-in}
 use Rattle.lists.specs.declared.End.{End}
 use Rattle.lists.specs.declared.End.the-variants.{Front, Back}
@@ -22,9 +23,12 @@ use Rattle.lists.specs.declared.Pushed.{Pushed}
 use Rattle.lists.specs.declared.Popped.{Popped}
 use Rattle.lists.specs.Meaning.{unlessNull, joined, Held, Joins, Leaves, PushDone, PopDone}
 use Rattle.lists.proofs.Steps.{push-done, pop-done}
+use Rattle.lists.specs.declared.clear.Cleared.{Cleared}
+use Rattle.lists.specs.Clear.{clearOn, Empties}
 use Rattle.lists.proofs.Ends.{push-held, pop-held}
+use Rattle.lists.proofs.Clearing.{clear-held}
 use Rattle.shares.specs.Sound.{Shape, chainAt, lacks, Sound}
-use Rattle.shares.proofs.Shape.{lacks-part}
+use Rattle.shares.proofs.Shape.{lacks-part, no-null, part}
 use Rattle.shares.proofs.Kept.{put, sound-held, sound-put}
 
 -- ---- a slot at an end
@@ -167,3 +171,37 @@ module _ {links values : List ℕ} {es : List Entry} {free : Free} {s : Shape} (
       wipe : (y : ℕ) → 0 < count y (x ∷ s .idle) → Dec (y ≡ x) → cell (r .values) y ≡ wipeWord
       wipe y p (yes d) = ap (cell (r .values)) d ∙ L .wiped
       wipe y p (no d) = D .frame .otherValues y (one-other (nearOf end e) y (λ i. d (i ∙ end-is))) ∙ S .wiped y (omega (arith, hit-other y x d))
+
+-- ---- clear
+
+module _ {links values : List ℕ} {es : List Entry} {free : Free} {s : Shape} (S : Sound links values es free s) (l : ℕ) (b : l < length es) where
+  -- clear leaves the list empty, its slots wiped and in front of the idle chain, the last of them first
+  pub clear-sound : Sound (clearOn (length (chainAt s l)) links values (entryAt es l) free .links) (clearOn (length (chainAt s l)) links values (entryAt es l) free .values)
+      (set es l (clearOn (length (chainAt s l)) links values (entryAt es l) free .answer .entry)) (clearOn (length (chainAt s l)) links values (entryAt es l) free .answer .free)
+      (put s l [] (reverse (chainAt s l) ++ s .idle))
+  clear-sound =
+      sound-put S (r .links) (r .values) l (r .answer .entry) (r .answer .free) [] (reverse xs ++ s .idle) b (E .frame .sameLinks) (E .frame .sameValues)
+      (λ y. omega (arith, moved y))
+      (λ y p q. E .frame .otherLinks y p)
+      (E .held)
+      (λ y p. wipe y p (eq-zero-or-pos (count y xs)))
+      (E .frame .otherValues 0 (omega (arith, part S l 0, no-null S)) ∙ S .nullValue)
+      (E .share)
+      (omega arith)
+      (omega (arith, S .spare, length-append (reverse xs) (s .idle), length-reverse xs))
+    where
+      xs : List ℕ
+      xs = chainAt s l
+
+      r : Outcome Cleared
+      r = clearOn (length xs) links values (entryAt es l) free
+
+      E : Empties links values (entryAt es l) xs (s .idle) r
+      E = clear-held xs (sound-held S l b)
+
+      moved : (y : ℕ) → count y (reverse xs ++ s .idle) ≡ count y xs + count y (s .idle)
+      moved y = omega (arith, count-append y (reverse xs) (s .idle), count-reverse y xs)
+
+      wipe : (y : ℕ) → 0 < count y (reverse xs ++ s .idle) → (count y xs ≡ 0) ⊎ (0 < count y xs) → cell (r .values) y ≡ wipeWord
+      wipe y p (inl z) = E .frame .otherValues y z ∙ S .wiped y (omega (arith, moved y))
+      wipe y p (inr h) = E .wiped y h
