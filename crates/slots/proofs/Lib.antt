@@ -1,3 +1,5 @@
 -- Laws of the slot layer, for the crates above to cite.
 pub mod Slot
 pub mod Laws
+pub mod Seen
+pub mod Walks

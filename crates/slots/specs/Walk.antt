@@ -1,12 +1,15 @@
 -- A walk along a chain: which slots it passes, and whether it came to the end. One definition for the live chains and the idle chain.
+use mathlib.Core.Path.{_≡_}
 use mathlib.Core.Bool.{Bool, true, false, cond, not, _&&_}
 use mathlib.Core.List.{List, [], _∷_}
 use Prim.Native.Nat.{ℕ, zero, suc}
 use lib.Dec.{ltb, eqb}
 use lib.ListN.{length}
+use Rattle.books.specs.declared.Free.{Free}
 use Rattle.books.specs.Book.{nullSlot, wipeWord}
 use Rattle.chains.specs.Chain.{cell}
-use Rattle.slots.specs.Met.{isMetOf, markOf, unmet}
+use Rattle.slots.specs.Met.{isMetOf, markOf, markAll, unmet}
+use Rattle.slots.specs.declared.walk.IdleWalk.{IdleWalk}
 
 -- the slots that were passed, and whether the next one was null
 pub record Path : Type 0 where
@@ -41,3 +44,14 @@ lower slot least = cond (eqb least nullSlot) slot (cond (ltb slot least) slot le
 abbrev pub unwipedFrom : List ℕ → List ℕ → ℕ → ℕ
 unwipedFrom values [] least = least
 unwipedFrom values (x ∷ xs) least = unwipedFrom values xs (cond (eqb (cell values x) wipeWord) least (lower x least))
+
+-- the walk along the idle chain
+abbrev pub idlePath : List ℕ → List ℕ → Free → Path
+idlePath links met free = walkFrom idleOnward links met (free .head)
+
+-- what the walk along the idle chain answers, and which slots are marked then
+pub record IdleWalked (links values met : List ℕ) (free : Free) (r : IdleWalk) (met′ : List ℕ) : Type 0 where
+  pub ok : r .ok ≡ idlePath links met free .ok
+  pub counted : r .length ≡ length (idlePath links met free .slots)
+  pub unwiped : r .unwiped ≡ unwipedFrom values (idlePath links met free .slots) nullSlot
+  pub marked : met′ ≡ markAll met (idlePath links met free .slots)

@@ -1,0 +1,83 @@
+-- Laws of the record of slots met: marking a slot that was not met adds it to the slots seen, and leaves one fewer to meet.
+use mathlib.Core.Path.{_≡_, refl, sym, ap, _∙_}
+use mathlib.Core.Bool.{Bool, true, false, cond, not}
+use mathlib.Core.List.{List, [], _∷_}
+use Prim.Native.Nat.{ℕ, zero, suc, _+_, _≤_, _<_}
+use native.Mathlib.Nat.{le-of-suc-le-suc, not-suc-le-zero}
+use native.Mathlib.Omega.{arith}
+use lib.Dec.{eqb, eqb·suc-zero}
+use lib.ListN.{length, getD, replicate, getD-replicate, length-replicate, List·getD-eq-default}
+use Rattle.books.proofs.Tests.{not-both}
+use Rattle.chains.specs.Count.{hit}
+use Rattle.slots.specs.Met.{isMetOf, markOf, unmet}
+
+-- 1 where the slot was met, else 0
+abbrev pub seen : List ℕ → ℕ → ℕ
+seen met y = cond (isMetOf met y) 1 0
+
+pub seen-most : (met : List ℕ) (y : ℕ) → seen met y ≤ 1
+seen-most met y = go (isMetOf met y)
+  where
+    go : (b : Bool) → cond b 1 0 ≤ 1
+    go true = omega arith
+    go false = omega arith
+
+-- a slot is not met exactly where it is not seen
+pub seen-unmet : (met : List ℕ) (y : ℕ) → seen met y ≡ 0 → isMetOf met y ≡ false
+seen-unmet met y = go (isMetOf met y)
+  where
+    go : (b : Bool) → cond b 1 0 ≡ zero → b ≡ false
+    go true h = absurd (omega arith)
+    go false h = refl
+
+pub unmet-seen : (met : List ℕ) (y : ℕ) → isMetOf met y ≡ false → seen met y ≡ 0
+unmet-seen met y h = rw h
+
+-- ---- one slot is marked
+
+met-first : (b : ℕ) (met : List ℕ) → isMetOf (suc b ∷ met) 0 ≡ true
+unfolding isMetOf
+met-first b met = rw (eqb·suc-zero b)
+
+pub seen-mark : (met : List ℕ) (x y : ℕ) → isMetOf met x ≡ false → seen (markOf met x) y ≡ seen met y + hit y x
+unfolding isMetOf markOf
+seen-mark [] x y h = not-both true refl h
+seen-mark (zero ∷ met) zero zero h = refl
+seen-mark (zero ∷ met) zero (suc y) h = omega arith
+seen-mark (suc b ∷ met) zero y h = not-both _ (met-first b met) h
+seen-mark (b ∷ met) (suc x) zero h = omega arith
+seen-mark (b ∷ met) (suc x) (suc y) h = seen-mark met x y h
+
+pub unmet-mark : (met : List ℕ) (x : ℕ) → isMetOf met x ≡ false → suc (unmet (markOf met x)) ≡ unmet met
+unfolding isMetOf markOf unmet
+unmet-mark [] x h = not-both true refl h
+unmet-mark (zero ∷ met) zero h = refl
+unmet-mark (suc b ∷ met) zero h = not-both _ (met-first b met) h
+unmet-mark (zero ∷ met) (suc x) h = ap suc (unmet-mark met x h)
+unmet-mark (suc b ∷ met) (suc x) h = unmet-mark met x h
+
+pub unmet-most : (met : List ℕ) → unmet met ≤ length met
+unfolding unmet
+unmet-most [] = omega arith
+unmet-most (zero ∷ met) = omega (arith, unmet-most met)
+unmet-most (suc b ∷ met) = omega (arith, unmet-most met)
+
+-- ---- the record before the first slot is met
+
+module _ (n y : ℕ) where
+  pub seen-none : y < n → seen (replicate n 0) y ≡ 0
+  unfolding isMetOf
+  seen-none h = rw (getD-replicate n y zero 1 h)
+
+  -- a slot that it has no place for
+  pub seen-past : n ≤ y → seen (replicate n 0) y ≡ 1
+  unfolding isMetOf
+  seen-past h = rw (List·getD-eq-default (replicate n zero) 1 {n = y} (omega (arith, length-replicate n zero)))
+
+-- ---- what the code reads
+
+-- where there is an element, it does not matter what stands for none
+pub read-any : (cells : List ℕ) (i a b : ℕ) → i < length cells → getD cells i a ≡ getD cells i b
+read-any [] i a b h = absurd (not-suc-le-zero h)
+read-any (x ∷ xs) zero a b h = refl
+read-any (x ∷ xs) (suc i) a b h = read-any xs i a b (le-of-suc-le-suc h)

@@ -1,0 +1,88 @@
+-- `slots::walk::walk_idle`: at each turn the path is the slots passed so far and then the path from here.
+use mathlib.Core.Path.{_≡_, refl, sym, ap, _∙_}
+use mathlib.Core.Bool.{false}
+use mathlib.Core.List.{List, [], _∷_, _++_}
+use Prim.Native.Nat.{ℕ, _+_}
+use native.Mathlib.Omega.{arith}
+use denote.Ref.{now}
+use borrow.Author.Needs.{needs}
+use Rattle.books.specs.Book.{nullSlot}
+use Rattle.chains.specs.Chain.{cell}
+use Rattle.slots.specs.Met.{isMetOf, markOf, unmet}
+use Rattle.slots.specs.Walk.{idleOnward, unwipedFrom}
+use Rattle.slots.proofs.Seen.{unmet-mark}
+use Rattle.slots.proofs.Walks.{unwiped-append, Going, going-start, going-on, going-end, going-past, going-met, going-length, going-room, idle-walked}
+use Rattle.slots.proofs.walk.walk_idle.Statement.{statement}
+use Rattle.slots.proofs.walk.walk_idle.Tie as tie
+
+abbrev Inv-loop : tie.InvT-loop
+Inv-loop links values met₀ slot₀ many₀ unwiped₀ met slot many unwiped =
+    (passed : List ℕ) × Going idleOnward links met₀ slot₀ passed met slot many × (unwiped ≡ unwipedFrom values passed nullSlot)
+
+abbrev μ-loop : tie.MeasureT-loop
+μ-loop links values met₀ slot₀ many₀ unwiped₀ met slot many unwiped = unmet met
+
+returns : tie.Need-returns Inv-loop μ-loop
+returns c =
+    let (passed, g, u) = c .before .before .before .loop .inv in
+    idle-walked g u (going-past g (c .before .before .loop-test .taken) (omega arith))
+
+returns-2 : tie.Need-returns-2 Inv-loop μ-loop
+returns-2 c =
+    let (passed, g, u) = c .before .before .before .before .before .before .loop .inv in
+    idle-walked g u (going-met g (c .before .before .before .before .before .loop-test .taken) (omega arith) (sym (c .before .is-met .ensures) ∙ c .if2 .taken))
+
+returns-3 : tie.Need-returns-3 Inv-loop μ-loop
+returns-3 c = let (passed, g, u) = c .before .loop .inv in idle-walked g u (going-end g (c .loop-test .left))
+
+-- the slot is passed
+module _ (c : tie.Else2 Inv-loop μ-loop) where
+  abbrev here : tie.At-loop Inv-loop μ-loop
+  here = c .before .before .before .before .before .before
+
+  abbrev passed : List ℕ
+  passed = here .loop .inv .0
+
+  fresh : isMetOf (here .loop .met) (here .loop .slot) ≡ false
+  fresh = sym (c .before .is-met .ensures) ∙ c .if2 .left
+
+  fewer : unmet (markOf (here .loop .met) (here .loop .slot)) + 1 ≡ unmet (here .loop .met)
+  fewer = omega (arith, unmet-mark (here .loop .met) (here .loop .slot) fresh)
+
+add-length : tie.Need-add-length Inv-loop μ-loop
+add-length c = let (passed, g, u) = c .before .before .before .before .before .before .before .before .before .before .before .loop .inv in omega (arith, going-room g (fresh (c .before .before .before .before .before)))
+
+loop-less : tie.Need-loop-less Inv-loop μ-loop
+loop-less c = omega (arith, ap unmet (c .before .before .before .before .mark .ensures), fewer (c .before .before .before .before .before .before))
+
+loop-again : tie.Need-loop-again Inv-loop μ-loop
+loop-again c =
+    let (passed, g, u) = c .before .before .before .before .before .before .before .before .before .before .before .before .loop .inv in
+    let slot = c .before .before .before .before .before .before .before .before .before .before .before .before .loop .slot in (
+      passed ++ slot ∷ [],
+      rw (c .before .before .before .before .mark .ensures, c .before .before .before .before .before .before .before .before .before .before .wide .ensures .0) (going-on g (c .before .before .before .before .before .before .before .before .before .before .before .loop-test .taken) (omega arith) (fresh (c .before .before .before .before .before .before))),
+      c .before .gather .ensures ∙ ap (unwipedFrom (now (c .before .before .before .before .before .before .before .before .before .before .before .before .before .before .before .before .args .values)) (slot ∷ [])) u ∙ sym (unwiped-append (now (c .before .before .before .before .before .before .before .before .before .before .before .before .before .before .before .before .args .values)) passed (slot ∷ []) nullSlot),
+    )
+
+pub walk-idle-spec : {M : Type 1} → statement M
+walk-idle-spec =
+    tie.close
+    (tie.spec
+    Inv-loop
+    μ-loop
+    (λ c. ([], going-start idleOnward _ _ _, refl))
+    (λ c κs. search needs)
+    (λ c. going-length (c .before .before .before .loop .inv .1))
+    returns
+    (λ c κs. search needs)
+    (λ c. going-length (c .before .before .before .before .before .before .loop .inv .1))
+    returns-2
+    (λ c κs. search needs)
+    (λ c κs. search needs)
+    add-length
+    (λ c. search needs)
+    (λ c. search needs)
+    loop-less
+    loop-again
+    (λ c. going-length (c .before .loop .inv .1))
+    returns-3)
