@@ -2,4 +2,6 @@
 pub mod Slot
 pub mod Laws
 pub mod Seen
+pub mod Going
 pub mod Walks
+pub mod Unwiped

@@ -1,11 +1,11 @@
 -- Laws of the record of slots met: marking a slot that was not met adds it to the slots seen, and leaves one fewer to meet.
-use mathlib.Core.Path.{_≡_, refl, sym, ap, _∙_}
-use mathlib.Core.Bool.{Bool, true, false, cond, not}
+use mathlib.Core.Path.{_≡_, refl, ap}
+use mathlib.Core.Bool.{Bool, true, false, cond}
 use mathlib.Core.List.{List, [], _∷_}
 use Prim.Native.Nat.{ℕ, zero, suc, _+_, _≤_, _<_}
 use native.Mathlib.Nat.{le-of-suc-le-suc, not-suc-le-zero}
 use native.Mathlib.Omega.{arith}
-use lib.Dec.{eqb, eqb·suc-zero}
+use lib.Dec.{eqb·suc-zero}
 use lib.ListN.{length, getD, replicate, getD-replicate, length-replicate, List·getD-eq-default}
 use Rattle.books.proofs.Tests.{not-both}
 use Rattle.chains.specs.Count.{hit}
@@ -15,8 +15,8 @@ use Rattle.slots.specs.Met.{isMetOf, markOf, unmet}
 abbrev pub seen : List ℕ → ℕ → ℕ
 seen met y = cond (isMetOf met y) 1 0
 
-pub seen-most : (met : List ℕ) (y : ℕ) → seen met y ≤ 1
-seen-most met y = go (isMetOf met y)
+pub seen-le : (met : List ℕ) (y : ℕ) → seen met y ≤ 1
+seen-le met y = go (isMetOf met y)
   where
     go : (b : Bool) → cond b 1 0 ≤ 1
     go true = omega arith
@@ -56,11 +56,11 @@ unmet-mark (suc b ∷ met) zero h = not-both _ (met-first b met) h
 unmet-mark (zero ∷ met) (suc x) h = ap suc (unmet-mark met x h)
 unmet-mark (suc b ∷ met) (suc x) h = unmet-mark met x h
 
-pub unmet-most : (met : List ℕ) → unmet met ≤ length met
+pub unmet-le : (met : List ℕ) → unmet met ≤ length met
 unfolding unmet
-unmet-most [] = omega arith
-unmet-most (zero ∷ met) = omega (arith, unmet-most met)
-unmet-most (suc b ∷ met) = omega (arith, unmet-most met)
+unmet-le [] = omega arith
+unmet-le (zero ∷ met) = omega (arith, unmet-le met)
+unmet-le (suc b ∷ met) = omega (arith, unmet-le met)
 
 -- ---- the record before the first slot is met
 

@@ -1,124 +1,123 @@
--- Laws of a walk: what a loop that walks has passed so far, that a walk passes each slot once, and that it comes to its end exactly along a chain.
+-- Laws of a walk: it passes each slot once, and it comes to its end exactly along a chain of slots that were not met.
 use mathlib.Core.Path.{_≡_, refl, sym, ap, _∙_}
-use mathlib.Core.Logic.{_≢_, _↔_}
-use mathlib.Core.Bool.{Bool, true, false, cond}
-use mathlib.Core.List.{List, [], _∷_, _++_, append-assoc, append-nil}
+use mathlib.Core.Bool.{true, false, not, _&&_}
+use mathlib.Core.List.{List, [], _∷_}
 use Prim.Native.Nat.{ℕ, zero, suc, _+_, _≤_, _<_}
 use native.Mathlib.Nat.{not-suc-le-zero}
 use native.Mathlib.Decide.{ℕ-discrete}
 use native.Mathlib.Omega.{arith}
 use lib.Dec.{eqb, ltb}
-use lib.ListN.{length, length-append, length-set}
-use borrow.Author.Tests.{eq-eqb, ne-eqb, lt-ltb, le-ltb, eqb-true, eqb-false, ltb-true, not-true}
+use lib.ListN.{length}
+use borrow.Author.Tests.{eqb-true, eqb-false, ltb-true, not-true}
 use Rattle.books.specs.declared.Free.{Free}
 use Rattle.books.specs.Book.{nullSlot}
 use Rattle.books.proofs.Tests.{and-both, not-both, cond-ind}
 use Rattle.chains.specs.Count.{count}
-use Rattle.chains.specs.Chain.{cell, firstOr, lastOr, Linked, after, IdleChain}
+use Rattle.chains.specs.Chain.{cell, firstOr, Linked, after, IdleChain}
 use Rattle.chains.proofs.Count.{hit-same, hit-other}
-use Rattle.chains.proofs.Chain.{last-append, Chain, linked-iff}
+use Rattle.chains.proofs.Chain.{Chain, linked-iff}
 use Rattle.slots.specs.Met.{isMetOf, markOf, markAll, unmet}
-use Rattle.slots.specs.Walk.{Path, passing, walkOn, walkFrom, idleOnward, idlePath, unwipedFrom, IdleWalked}
-use Rattle.slots.proofs.Seen.{seen, seen-most, seen-unmet, unmet-seen, seen-mark, unmet-mark, unmet-most}
+use Rattle.slots.specs.Walk.{Path, passing, walkOn, walkFrom, idleOnward, idlePath}
+use Rattle.slots.proofs.Seen.{seen, seen-le, seen-unmet, seen-mark, unmet-mark}
+use Rattle.slots.proofs.Going.{end-here, pass-on}
 
-mark-append : (met xs ys : List ℕ) → markAll met (xs ++ ys) ≡ markAll (markAll met xs) ys
-mark-append met [] ys = refl
-mark-append met (x ∷ xs) ys = mark-append (markOf met x) xs ys
+module _ (links : List ℕ) where
+  -- each slot in turn is from 1 to N-1 and was not met
+  abbrev Fresh : List ℕ → List ℕ → Type 0
+  Fresh met [] = Unit
+  Fresh met (x ∷ xs) = (0 < x) × (x < length links) × (isMetOf met x ≡ false) × Fresh (markOf met x) xs
 
-mark-length : (met xs : List ℕ) → length (markAll met xs) ≡ length met
-unfolding markOf
-mark-length met [] = refl
-mark-length met (x ∷ xs) = mark-length (markOf met x) xs ∙ length-set met x 1
+  -- what is so of the slots that a walk passes
+  pub record Passes (met slots : List ℕ) : Type 0 where
+    pub marks : (y : ℕ) → seen (markAll met slots) y ≡ seen met y + count y slots
+    pub inside : (y : ℕ) → 0 < count y slots → (0 < y) × (y < length links)
+    pub once : (y : ℕ) → seen met y + count y slots ≤ 1
 
-pub unwiped-append : (values xs ys : List ℕ) (least : ℕ) → unwipedFrom values (xs ++ ys) least ≡ unwipedFrom values ys (unwipedFrom values xs least)
-unwiped-append values [] ys least = refl
-unwiped-append values (x ∷ xs) ys least = unwiped-append values xs ys _
+  fresh-marks : (met xs : List ℕ) → Fresh met xs → (y : ℕ) → seen (markAll met xs) y ≡ seen met y + count y xs
+  fresh-marks met [] f y = omega arith
+  fresh-marks met (x ∷ xs) f y = omega (arith, fresh-marks (markOf met x) xs (f .3) y, seen-mark met x y (f .2))
 
--- the slots of `passed`, and then a path
-abbrev beyond : List ℕ → Path → Path
-beyond passed path = record { ok = path .ok; slots = passed ++ path .slots }
-
-whole : {passed : List ℕ} (ok : Bool) → beyond passed (record { ok = ok; slots = [] }) ≡ record { ok = ok; slots = passed }
-whole {passed} ok = rw (append-nil passed)
-
-module _ (onward : ℕ → ℕ → ℕ) (links : List ℕ) where
-  -- ---- one step
-
-  module _ (steps : ℕ) (met : List ℕ) (before slot : ℕ) where
-    end-here : slot ≡ nullSlot → walkOn onward links (suc steps) met before slot ≡ record { ok = true; slots = [] }
-    unfolding walkOn
-    end-here e = rw (eq-eqb slot nullSlot e)
-
-    stop-past : slot ≢ nullSlot → length links ≤ slot → walkOn onward links (suc steps) met before slot ≡ record { ok = false; slots = [] }
-    unfolding walkOn
-    stop-past n h = rw (ne-eqb slot nullSlot n, le-ltb slot (length links) h)
-
-    stop-met : slot ≢ nullSlot → slot < length links → isMetOf met slot ≡ true → walkOn onward links (suc steps) met before slot ≡ record { ok = false; slots = [] }
-    unfolding walkOn
-    stop-met n h m = rw (ne-eqb slot nullSlot n, lt-ltb slot (length links) h, m)
-
-    pass-on : slot ≢ nullSlot → slot < length links → isMetOf met slot ≡ false
-        → walkOn onward links (suc steps) met before slot ≡ passing slot (walkOn onward links steps (markOf met slot) slot (onward before (cell links slot)))
-    unfolding walkOn
-    pass-on n h m = rw (ne-eqb slot nullSlot n, lt-ltb slot (length links) h, m)
-
-  -- ---- a walk on its way: the slots `passed` so far, and the path from here
-
-  pub record Going (start : List ℕ) (head : ℕ) (passed met : List ℕ) (slot many : ℕ) : Type 0 where
-    pub path : walkFrom onward links start head ≡ beyond passed (walkOn onward links (suc (unmet met)) met (lastOr nullSlot passed) slot)
-    pub counted : many ≡ length passed
-    pub marked : met ≡ markAll start passed
-    pub left : many + unmet met ≡ unmet start
-
-  pub going-start : (start : List ℕ) (head : ℕ) → Going start head [] start head 0
-  going-start start head = record { path = refl; counted = refl; marked = refl; left = omega arith }
-
--- the slot is passed, or the walk ends before it
-module _ {onward : ℕ → ℕ → ℕ} {links start : List ℕ} {head : ℕ} {passed met : List ℕ} {slot many : ℕ} (g : Going onward links start head passed met slot many) where
-  pub going-on : slot ≢ nullSlot → slot < length links → isMetOf met slot ≡ false
-      → Going onward links start head (passed ++ slot ∷ []) (markOf met slot) (onward (lastOr nullSlot passed) (cell links slot)) (many + 1)
-  going-on n h m =
-      record {
-        path = g .path
-            ∙ ap (λ k. beyond passed (walkOn onward links (suc k) met (lastOr nullSlot passed) slot)) (sym (unmet-mark met slot m))
-            ∙ ap (beyond passed) (pass-on onward links (suc (unmet (markOf met slot))) met (lastOr nullSlot passed) slot n h m)
-            ∙ regroup (lastOr nullSlot (passed ++ slot ∷ [])) (sym (last-append nullSlot passed (slot ∷ [])));
-        counted = omega (arith, g .counted, length-append passed (slot ∷ []));
-        marked = ap (λ l. markOf l slot) (g .marked) ∙ sym (mark-append start passed (slot ∷ []));
-        left = omega (arith, g .left, unmet-mark met slot m);
-      }
+  fresh-inside : (met xs : List ℕ) → Fresh met xs → (y : ℕ) → 0 < count y xs → (0 < y) × (y < length links)
+  fresh-inside met [] f y h = absurd (not-suc-le-zero h)
+  fresh-inside met (x ∷ xs) f y h = go (ℕ-discrete y x) (λ k. fresh-inside (markOf met x) xs (f .3) y k)
     where
-      regroup : (last : ℕ) → slot ≡ last
-          → beyond passed (passing slot (walkOn onward links (suc (unmet (markOf met slot))) (markOf met slot) slot (onward (lastOr nullSlot passed) (cell links slot))))
-          ≡ beyond (passed ++ slot ∷ []) (walkOn onward links (suc (unmet (markOf met slot))) (markOf met slot) last (onward (lastOr nullSlot passed) (cell links slot)))
-      regroup last e = rw (← e, append-assoc passed (slot ∷ []) _)
+      go : Dec (y ≡ x) → (0 < count y xs → (0 < y) × (y < length links)) → (0 < y) × (y < length links)
+      go (yes e) r = rw e (f .0, f .1)
+      go (no e) r = r (omega (arith, hit-other y x e))
 
-  pub going-end : slot ≡ nullSlot → walkFrom onward links start head ≡ record { ok = true; slots = passed }
-  going-end e = g .path ∙ ap (beyond passed) (end-here onward links (unmet met) met (lastOr nullSlot passed) slot e) ∙ whole true
+  passes : (met xs : List ℕ) → Fresh met xs → Passes met xs
+  passes met xs f =
+      record { marks = fresh-marks met xs f; inside = fresh-inside met xs f; once = λ y. omega (arith, fresh-marks met xs f y, seen-le (markAll met xs) y) }
 
-  pub going-past : slot ≢ nullSlot → length links ≤ slot → walkFrom onward links start head ≡ record { ok = false; slots = passed }
-  going-past n h = g .path ∙ ap (beyond passed) (stop-past onward links (unmet met) met (lastOr nullSlot passed) slot n h) ∙ whole false
+  to-fresh : (met xs : List ℕ) → ((y : ℕ) → 0 < count y xs → (0 < y) × (y < length links)) → ((y : ℕ) → seen met y + count y xs ≤ 1) → Fresh met xs
+  to-fresh met [] r u = tt
+  to-fresh met (x ∷ xs) r u =
+      let m : isMetOf met x ≡ false = seen-unmet met x (omega (arith, u x, hit-same x)) in
+      let (p, q) = r x (omega (arith, hit-same x)) in
+      (p, q, m, to-fresh (markOf met x) xs (λ y h. r y (omega arith)) (λ y. omega (arith, u y, seen-mark met x y m)))
 
-  pub going-met : slot ≢ nullSlot → slot < length links → isMetOf met slot ≡ true → walkFrom onward links start head ≡ record { ok = false; slots = passed }
-  going-met n h m = g .path ∙ ap (beyond passed) (stop-met onward links (unmet met) met (lastOr nullSlot passed) slot n h m) ∙ whole false
+  module _ (onward : ℕ → ℕ → ℕ) where
+    walk-on-fresh : (steps : ℕ) (met : List ℕ) (before slot : ℕ) → Fresh met (walkOn onward links steps met before slot .slots)
+    unfolding walkOn
+    walk-on-fresh zero met before slot = tt
+    walk-on-fresh (suc steps) met before slot =
+        let P : Path → Type 0 = λ p. Fresh met (p .slots) in
+        cond-ind P (eqb slot nullSlot) (λ e. tt)
+        (λ e. cond-ind P (ltb slot (length links) && not (isMetOf met slot))
+        (λ h. let n = eqb-false slot nullSlot e in
+        let (b, m) = and-both (ltb slot (length links)) (not (isMetOf met slot)) h in
+        (omega arith, ltb-true slot (length links) b, not-true (isMetOf met slot) m, walk-on-fresh steps (markOf met slot) slot (onward before (cell links slot))))
+        (λ h. tt))
 
-  -- the record keeps its length, and there are places enough to count by
-  pub going-length : length met ≡ length start
-  going-length = ap length (g .marked) ∙ mark-length start passed
+    -- whether it comes to its end or not, a walk passes slots that were not met, each once, and marks just these
+    pub walk-fresh : (met : List ℕ) (head : ℕ) → Passes met (walkFrom onward links met head .slots)
+    walk-fresh met head = passes met (walkFrom onward links met head .slots) (walk-on-fresh (suc (unmet met)) met nullSlot head)
 
-  pub going-room : isMetOf met slot ≡ false → many < length start
-  going-room m = omega (arith, g .left, unmet-mark met slot m, unmet-most start)
+    module _ (op : ℕ → ℕ → ℕ) where
+      module _ (op-onward : (p v : ℕ) → op p (onward p v) ≡ v) where
+        on-only : (steps : ℕ) (met : List ℕ) (before slot : ℕ) → walkOn onward links steps met before slot .ok ≡ true
+            → (slot ≡ firstOr 0 (walkOn onward links steps met before slot .slots)) × Chain op (cell links) before (walkOn onward links steps met before slot .slots) 0
+        unfolding walkOn
+        on-only zero met before slot = λ h. not-both true refl (sym h)
+        on-only (suc steps) met before slot =
+            let P : Path → Type 0 = λ p. p .ok ≡ true → (slot ≡ firstOr 0 (p .slots)) × Chain op (cell links) before (p .slots) 0 in
+            cond-ind P (eqb slot nullSlot) (λ e h. (eqb-true slot nullSlot e, tt))
+            (λ e. cond-ind P (ltb slot (length links) && not (isMetOf met slot))
+            (λ k h. let (f, c) = on-only steps (markOf met slot) slot (onward before (cell links slot)) h in
+            (refl, (sym (op-onward before (cell links slot)) ∙ ap (op before) f, c)))
+            (λ k h. not-both true refl (sym h)))
+
+        -- a walk that comes to its end has passed a chain
+        pub walk-only : (met : List ℕ) (head : ℕ) → walkFrom onward links met head .ok ≡ true
+            → (head ≡ firstOr 0 (walkFrom onward links met head .slots)) × Linked op (cell links) (walkFrom onward links met head .slots)
+        walk-only met head h =
+            let (f, c) = on-only (suc (unmet met)) met nullSlot head h in (f, linked-iff op (cell links) (walkFrom onward links met head .slots) .1 c)
+
+      module _ (onward-op : (p n : ℕ) → onward p (op p n) ≡ n) where
+        on-finds : (steps : ℕ) (met : List ℕ) (before : ℕ) (xs : List ℕ) → Chain op (cell links) before xs 0 → Fresh met xs → unmet met < steps
+            → walkOn onward links steps met before (firstOr 0 xs) ≡ record { ok = true; slots = xs }
+        on-finds zero met before xs c f u = absurd (not-suc-le-zero u)
+        on-finds (suc steps) met before [] c f u = end-here onward links steps met before 0 refl
+        on-finds (suc steps) met before (x ∷ xs) c f u =
+            pass-on onward links steps met before x (λ e. omega (arith, f .0)) (f .1) (f .2)
+            ∙ ap (λ n. passing x (walkOn onward links steps (markOf met x) x n)) (ap (onward before) (c .0) ∙ onward-op before (firstOr 0 xs))
+            ∙ ap (passing x) (on-finds steps (markOf met x) x xs (c .1) (f .3) (omega (arith, unmet-mark met x (f .2))))
+
+        -- a chain of slots that were not met is walked to its end
+        pub walk-finds : (met xs : List ℕ) → Linked op (cell links) xs → ((y : ℕ) → 0 < count y xs → (0 < y) × (y < length links)) → ((y : ℕ) → seen met y + count y xs ≤ 1)
+            → walkFrom onward links met (firstOr 0 xs) ≡ record { ok = true; slots = xs }
+        walk-finds met xs l r u =
+            on-finds (suc (unmet met)) met nullSlot xs (linked-iff op (cell links) xs .0 l) (to-fresh met xs r u) (omega arith)
 
 -- ---- the idle chain
 
--- where the walk along the idle chain ends, what was gathered on the way is the answer
-pub idle-walked : {links values met : List ℕ} {free : Free} {passed met′ : List ℕ} {slot many unwiped : ℕ} {ok : Bool}
-    → Going idleOnward links met (free .head) passed met′ slot many → unwiped ≡ unwipedFrom values passed nullSlot
-    → idlePath links met free ≡ record { ok = ok; slots = passed } → IdleWalked links values met free (record { ok = ok; length = many; unwiped = unwiped }) met′
-idle-walked {values = values} {met = met} g u e =
-    record {
-      ok = sym (ap (λ p. p .ok) e);
-      counted = g .counted ∙ ap (λ p. length (p .slots)) (sym e);
-      unwiped = u ∙ ap (λ p. unwipedFrom values (p .slots) nullSlot) (sym e);
-      marked = g .marked ∙ ap (λ p. markAll met (p .slots)) (sym e);
-    }
+module _ (links met : List ℕ) (free : Free) where
+  pub idle-fresh : Passes links met (idlePath links met free .slots)
+  idle-fresh = walk-fresh links idleOnward met (free .head)
+
+  pub idle-only : idlePath links met free .ok ≡ true → (free .head ≡ firstOr 0 (idlePath links met free .slots)) × IdleChain links (idlePath links met free .slots)
+  idle-only h = walk-only links idleOnward after (λ p v. refl) met (free .head) h
+
+  pub idle-finds : (xs : List ℕ) → free .head ≡ firstOr 0 xs → IdleChain links xs → ((y : ℕ) → 0 < count y xs → (0 < y) × (y < length links)) → ((y : ℕ) → seen met y + count y xs ≤ 1)
+      → idlePath links met free ≡ record { ok = true; slots = xs }
+  idle-finds xs e l r u = ap (walkFrom idleOnward links met) e ∙ walk-finds links idleOnward after (λ p n. refl) met xs l r u

@@ -1,5 +1,5 @@
 -- `slots::walk::gather`: each answer follows from the tests on the way.
-use mathlib.Core.Path.{_≡_, ap, sym, _∙_}
+use mathlib.Core.Path.{_≡_, ap}
 use native.Mathlib.Omega.{arith}
 use lib.Dec.{eqb}
 use lib.ListN.{getD, List·getD-eq-default}

@@ -7,11 +7,11 @@ use native.Mathlib.Omega.{arith}
 use denote.Ref.{now}
 use borrow.Author.Needs.{needs}
 use Rattle.books.specs.Book.{nullSlot}
-use Rattle.chains.specs.Chain.{cell}
 use Rattle.slots.specs.Met.{isMetOf, markOf, unmet}
 use Rattle.slots.specs.Walk.{idleOnward, unwipedFrom}
 use Rattle.slots.proofs.Seen.{unmet-mark}
-use Rattle.slots.proofs.Walks.{unwiped-append, Going, going-start, going-on, going-end, going-past, going-met, going-length, going-room, idle-walked}
+use Rattle.slots.proofs.Unwiped.{unwiped-append}
+use Rattle.slots.proofs.Going.{Going, going-start, going-on, going-end, going-past, going-met, going-length, going-room, idle-walked}
 use Rattle.slots.proofs.walk.walk_idle.Statement.{statement}
 use Rattle.slots.proofs.walk.walk_idle.Tie as tie
 
@@ -39,9 +39,6 @@ returns-3 c = let (passed, g, u) = c .before .loop .inv in idle-walked g u (goin
 module _ (c : tie.Else2 Inv-loop μ-loop) where
   abbrev here : tie.At-loop Inv-loop μ-loop
   here = c .before .before .before .before .before .before
-
-  abbrev passed : List ℕ
-  passed = here .loop .inv .0
 
   fresh : isMetOf (here .loop .met) (here .loop .slot) ≡ false
   fresh = sym (c .before .is-met .ensures) ∙ c .if2 .left
