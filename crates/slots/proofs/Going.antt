@@ -65,9 +65,9 @@ module _ (onward : ℕ → ℕ → ℕ) (links : List ℕ) where
 
 -- the slot is passed, or the walk ends before it
 module _ {onward : ℕ → ℕ → ℕ} {links start : List ℕ} {head : ℕ} {passed met : List ℕ} {slot many : ℕ} (g : Going onward links start head passed met slot many) where
-  pub going-on : slot ≢ nullSlot → slot < length links → isMetOf met slot ≡ false
+  on : slot ≢ nullSlot → slot < length links → isMetOf met slot ≡ false
       → Going onward links start head (passed ++ slot ∷ []) (markOf met slot) (onward (lastOr nullSlot passed) (cell links slot)) (many + 1)
-  going-on n h m =
+  on n h m =
       record {
         path = g .path
             ∙ ap (λ k. beyond passed (walkOn onward links (suc k) met (lastOr nullSlot passed) slot)) (sym (unmet-mark met slot m))
@@ -82,6 +82,11 @@ module _ {onward : ℕ → ℕ → ℕ} {links start : List ℕ} {head : ℕ} {p
           → beyond passed (passing slot (walkOn onward links (suc (unmet (markOf met slot))) (markOf met slot) slot (onward (lastOr nullSlot passed) (cell links slot))))
           ≡ beyond (passed ++ slot ∷ []) (walkOn onward links (suc (unmet (markOf met slot))) (markOf met slot) last (onward (lastOr nullSlot passed) (cell links slot)))
       regroup last e = rw (← e, append-assoc passed (slot ∷ []) _)
+
+  pub going-on : {met′ : List ℕ} {slot′ : ℕ} → slot ≢ nullSlot → slot < length links → isMetOf met slot ≡ false
+      → met′ ≡ markOf met slot → slot′ ≡ onward (lastOr nullSlot passed) (cell links slot)
+      → Going onward links start head (passed ++ slot ∷ []) met′ slot′ (many + 1)
+  going-on n h m d e = rw (d, e) (on n h m)
 
   pub going-end : slot ≡ nullSlot → walkFrom onward links start head ≡ record { ok = true; slots = passed }
   going-end e = g .path ∙ ap (beyond passed) (end-here onward links (unmet met) met (lastOr nullSlot passed) slot e) ∙ whole true

@@ -2,11 +2,12 @@
 use mathlib.Core.Path.{_≡_, refl, sym, ap, _∙_}
 use mathlib.Core.Bool.{false}
 use mathlib.Core.List.{List, [], _∷_, _++_}
-use Prim.Native.Nat.{ℕ, _+_}
+use Prim.Native.Nat.{ℕ, suc}
 use native.Mathlib.Omega.{arith}
 use denote.Ref.{now}
 use borrow.Author.Needs.{needs}
 use Rattle.books.specs.Book.{nullSlot}
+use Rattle.chains.specs.Chain.{cell}
 use Rattle.slots.specs.Met.{isMetOf, markOf, unmet}
 use Rattle.slots.specs.Walk.{idleOnward, unwipedFrom}
 use Rattle.slots.proofs.Seen.{unmet-mark}
@@ -24,13 +25,13 @@ abbrev μ-loop : tie.MeasureT-loop
 
 returns : tie.Need-returns Inv-loop μ-loop
 returns c =
-    let (passed, g, u) = c .before .before .before .loop .inv in
-    idle-walked g u (going-past g (c .before .before .loop-test .taken) (omega arith))
+    let (passed, g, u) = c .before .before .before .loop .inv in idle-walked g u (going-past g (c .before .before .loop-test .taken) (omega arith))
 
 returns-2 : tie.Need-returns-2 Inv-loop μ-loop
 returns-2 c =
     let (passed, g, u) = c .before .before .before .before .before .before .loop .inv in
-    idle-walked g u (going-met g (c .before .before .before .before .before .loop-test .taken) (omega arith) (sym (c .before .is-met .ensures) ∙ c .if2 .taken))
+    idle-walked g u
+    (going-met g (c .before .before .before .before .before .loop-test .taken) (omega arith) (sym (c .before .is-met .ensures) ∙ c .if2 .taken))
 
 returns-3 : tie.Need-returns-3 Inv-loop μ-loop
 returns-3 c = let (passed, g, u) = c .before .loop .inv in idle-walked g u (going-end g (c .loop-test .left))
@@ -40,25 +41,32 @@ module _ (c : tie.Else2 Inv-loop μ-loop) where
   abbrev here : tie.At-loop Inv-loop μ-loop
   here = c .before .before .before .before .before .before
 
+  abbrev args : tie.Start Inv-loop μ-loop
+  args = here .before .before .before .before
+
   fresh : isMetOf (here .loop .met) (here .loop .slot) ≡ false
   fresh = sym (c .before .is-met .ensures) ∙ c .if2 .left
 
-  fewer : unmet (markOf (here .loop .met) (here .loop .slot)) + 1 ≡ unmet (here .loop .met)
-  fewer = omega (arith, unmet-mark (here .loop .met) (here .loop .slot) fresh)
+  fewer : suc (unmet (markOf (here .loop .met) (here .loop .slot))) ≡ unmet (here .loop .met)
+  fewer = unmet-mark (here .loop .met) (here .loop .slot) fresh
+
+  gathers : unwipedFrom (now (args .args .values)) (here .loop .slot ∷ []) (here .loop .unwiped) ≡ unwipedFrom (now (args .args .values)) (here .loop .inv .0 ++ here .loop .slot ∷ []) nullSlot
+  gathers =
+      ap (unwipedFrom (now (args .args .values)) (here .loop .slot ∷ [])) (here .loop .inv .2)
+      ∙ sym (unwiped-append (now (args .args .values)) (here .loop .inv .0) (here .loop .slot ∷ []) nullSlot)
 
 add-length : tie.Need-add-length Inv-loop μ-loop
-add-length c = let (passed, g, u) = c .before .before .before .before .before .before .before .before .before .before .before .loop .inv in omega (arith, going-room g (fresh (c .before .before .before .before .before)))
+add-length c = omega (arith, going-room (c .before .before .before .before .before .before .before .before .before .before .before .loop .inv .1) (fresh (c .before .before .before .before .before)))
 
 loop-less : tie.Need-loop-less Inv-loop μ-loop
 loop-less c = omega (arith, ap unmet (c .before .before .before .before .mark .ensures), fewer (c .before .before .before .before .before .before))
 
 loop-again : tie.Need-loop-again Inv-loop μ-loop
 loop-again c =
-    let (passed, g, u) = c .before .before .before .before .before .before .before .before .before .before .before .before .loop .inv in
-    let slot = c .before .before .before .before .before .before .before .before .before .before .before .before .loop .slot in (
-      passed ++ slot ∷ [],
-      rw (c .before .before .before .before .mark .ensures, c .before .before .before .before .before .before .before .before .before .before .wide .ensures .0) (going-on g (c .before .before .before .before .before .before .before .before .before .before .before .loop-test .taken) (omega arith) (fresh (c .before .before .before .before .before .before))),
-      c .before .gather .ensures ∙ ap (unwipedFrom (now (c .before .before .before .before .before .before .before .before .before .before .before .before .before .before .before .before .args .values)) (slot ∷ [])) u ∙ sym (unwiped-append (now (c .before .before .before .before .before .before .before .before .before .before .before .before .before .before .before .before .args .values)) passed (slot ∷ []) nullSlot),
+    let e = c .before .before .before .before .before .before in (
+      here e .loop .inv .0 ++ here e .loop .slot ∷ [],
+      going-on (here e .loop .inv .1) (c .before .before .before .before .before .before .before .before .before .before .before .loop-test .taken) (omega arith) (fresh e) (c .before .before .before .before .mark .ensures) (ap (cell (now (args e .args .links))) (c .before .before .before .before .before .before .before .before .before .before .wide .ensures .0)),
+      c .before .gather .ensures ∙ gathers e,
     )
 
 pub walk-idle-spec : {M : Type 1} → statement M
