@@ -8,3 +8,4 @@ pub mod Read
 pub mod Fill
 pub mod Clearing
 pub mod Pools
+pub mod Walks

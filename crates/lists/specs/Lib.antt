@@ -3,3 +3,4 @@ pub mod Model
 pub mod Meaning
 pub mod Read
 pub mod Clear
+pub mod Walk

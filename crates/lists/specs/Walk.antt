@@ -1,0 +1,28 @@
+-- The walk along a list's chain: the slot after one is its link XORed with the slot before it, and the last one is the list's tail.
+use mathlib.Core.Path.{_≡_}
+use mathlib.Core.Bool.{_&&_}
+use mathlib.Core.List.{List}
+use Prim.Native.Nat.{ℕ}
+use lib.Bits.{bitXor}
+use lib.Dec.{eqb}
+use lib.ListN.{length}
+use Rattle.books.specs.declared.Entry.{Entry}
+use Rattle.books.specs.Book.{nullSlot}
+use Rattle.chains.specs.Chain.{lastOr}
+use Rattle.slots.specs.Met.{markAll}
+use Rattle.slots.specs.Walk.{Path, walkFrom}
+use Rattle.lists.specs.declared.walk.LiveWalk.{LiveWalk}
+
+-- of a live chain, the slot after is the link XORed with the slot before
+abbrev pub liveOnward : ℕ → ℕ → ℕ
+liveOnward before link = bitXor link before
+
+-- the walk along a list's chain
+abbrev pub livePath : List ℕ → List ℕ → Entry → Path
+livePath links met list = walkFrom liveOnward links met (list .head)
+
+-- what the walk along a list's chain answers, and which slots are marked then
+pub record LiveWalked (links met : List ℕ) (list : Entry) (r : LiveWalk) (met′ : List ℕ) : Type 0 where
+  pub ok : r .ok ≡ livePath links met list .ok && eqb (lastOr nullSlot (livePath links met list .slots)) (list .tail)
+  pub counted : r .length ≡ length (livePath links met list .slots)
+  pub marked : met′ ≡ markAll met (livePath links met list .slots)
