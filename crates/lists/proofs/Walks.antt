@@ -6,8 +6,10 @@ use Prim.Native.Nat.{ℕ, _+_, _≤_, _<_}
 use lib.Bits.{bitXor, xor-comm}
 use lib.Dec.{eqb}
 use lib.ListN.{length}
+use borrow.Author.Tests.{eqb-true, eq-eqb}
 use Rattle.books.specs.declared.Entry.{Entry}
 use Rattle.books.specs.Book.{nullSlot}
+use Rattle.books.proofs.Tests.{and-both}
 use Rattle.chains.specs.Count.{count}
 use Rattle.chains.specs.Chain.{firstOr, lastOr, LiveChain}
 use Rattle.chains.proofs.Xor.{xor-cancel-l, xor-cancel-out}
@@ -15,7 +17,8 @@ use Rattle.slots.specs.Met.{markAll}
 use Rattle.slots.specs.Walk.{walkFrom}
 use Rattle.slots.proofs.Seen.{seen}
 use Rattle.slots.proofs.Going.{Going}
-use Rattle.slots.proofs.Walks.{Passes, walk-fresh, walk-only, walk-finds}
+use Rattle.slots.proofs.Walks.{Along, Adds, Passes, walk-fresh, walk-only, walk-finds}
+use Rattle.lists.specs.declared.walk.LiveWalk.{LiveWalk}
 use Rattle.lists.specs.Walk.{liveOnward, livePath, LiveWalked}
 
 -- where the walk along a list's chain ends, what was gathered on the way is the answer
@@ -42,3 +45,27 @@ module _ (links met : List ℕ) (list : Entry) where
   pub live-finds : (xs : List ℕ) → list .head ≡ firstOr 0 xs → LiveChain links xs → ((y : ℕ) → 0 < count y xs → (0 < y) × (y < length links)) → ((y : ℕ) → seen met y + count y xs ≤ 1)
       → livePath links met list ≡ record { ok = true; slots = xs }
   live-finds xs e l r u = ap (walkFrom liveOnward links met) e ∙ walk-finds links liveOnward bitXor xor-cancel-out met xs l r u
+
+  module _ {r : LiveWalk} {met′ : List ℕ} (w : LiveWalked links met list r met′) where
+    -- an answer that is ok tells of a chain that ends at the list's tail
+    pub live-told : r .ok ≡ true → (xs : List ℕ) × Along bitXor links met (list .head) xs × (list .tail ≡ lastOr nullSlot xs) × Adds met (r .length) met′ xs
+    live-told h =
+        let (o, t) = and-both (livePath links met list .ok) (eqb (lastOr nullSlot (livePath links met list .slots)) (list .tail)) (sym (w .ok) ∙ h) in
+        let (e, l) = live-only o in (
+          livePath links met list .slots,
+          record { starts = e; linked = l; inside = live-fresh .inside; once = live-fresh .once },
+          sym (eqb-true _ _ t),
+          record { counted = w .counted; marks = λ y. ap (λ m. seen m y) (w .marked) ∙ live-fresh .marks y },
+        )
+
+    -- where there is a chain that ends at the list's tail, the answer tells of it
+    pub live-tells : (xs : List ℕ) → Along bitXor links met (list .head) xs → list .tail ≡ lastOr nullSlot xs → (r .ok ≡ true) × Adds met (r .length) met′ xs
+    live-tells xs a t =
+        let e = live-finds xs (a .starts) (a .linked) (a .inside) (a .once) in
+        let k = ap (λ p. p .slots) e in (
+          w .ok ∙ ap (λ p. p .ok && eqb (lastOr nullSlot (p .slots)) (list .tail)) e ∙ eq-eqb (lastOr nullSlot xs) (list .tail) (sym t),
+          record {
+            counted = w .counted ∙ ap length k;
+            marks = λ y. ap (λ m. seen m y) (w .marked) ∙ live-fresh .marks y ∙ ap (λ zs. seen met y + count y zs) k;
+          },
+        )

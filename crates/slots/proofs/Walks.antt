@@ -16,10 +16,23 @@ use Rattle.chains.specs.Count.{count}
 use Rattle.chains.specs.Chain.{cell, firstOr, Linked, after, IdleChain}
 use Rattle.chains.proofs.Count.{hit-same, hit-other}
 use Rattle.chains.proofs.Chain.{Chain, linked-iff}
+use Rattle.slots.specs.declared.walk.IdleWalk.{IdleWalk}
 use Rattle.slots.specs.Met.{isMetOf, markOf, markAll, unmet}
-use Rattle.slots.specs.Walk.{Path, passing, walkOn, walkFrom, idleOnward, idlePath}
+use Rattle.slots.specs.Walk.{Path, passing, walkOn, walkFrom, idleOnward, idlePath, unwipedFrom, IdleWalked}
 use Rattle.slots.proofs.Seen.{seen, seen-le, seen-unmet, seen-mark, unmet-mark}
 use Rattle.slots.proofs.Going.{end-here, pass-on}
+
+-- `xs` is a chain from `head` on, of slots from 1 to N-1 that were not met, none of them twice
+pub record Along (op : ℕ → ℕ → ℕ) (links met : List ℕ) (head : ℕ) (xs : List ℕ) : Type 0 where
+  pub starts : head ≡ firstOr 0 xs
+  pub linked : Linked op (cell links) xs
+  pub inside : (y : ℕ) → 0 < count y xs → (0 < y) × (y < length links)
+  pub once : (y : ℕ) → seen met y + count y xs ≤ 1
+
+-- `xs` has so many slots, and `met′` is the record with just these met besides
+pub record Adds (met : List ℕ) (many : ℕ) (met′ xs : List ℕ) : Type 0 where
+  pub counted : many ≡ length xs
+  pub marks : (y : ℕ) → seen met′ y ≡ seen met y + count y xs
 
 module _ (links : List ℕ) where
   -- each slot in turn is from 1 to N-1 and was not met
@@ -121,3 +134,27 @@ module _ (links met : List ℕ) (free : Free) where
   pub idle-finds : (xs : List ℕ) → free .head ≡ firstOr 0 xs → IdleChain links xs → ((y : ℕ) → 0 < count y xs → (0 < y) × (y < length links)) → ((y : ℕ) → seen met y + count y xs ≤ 1)
       → idlePath links met free ≡ record { ok = true; slots = xs }
   idle-finds xs e l r u = ap (walkFrom idleOnward links met) e ∙ walk-finds links idleOnward after (λ p n. refl) met xs l r u
+
+  module _ {values : List ℕ} {r : IdleWalk} {met′ : List ℕ} (w : IdleWalked links values met free r met′) where
+    -- an answer that is ok tells of a chain
+    pub idle-told : r .ok ≡ true → (xs : List ℕ) × Along after links met (free .head) xs × Adds met (r .length) met′ xs × (r .unwiped ≡ unwipedFrom values xs nullSlot)
+    idle-told h =
+        let (e, l) = idle-only (sym (w .ok) ∙ h) in (
+          idlePath links met free .slots,
+          record { starts = e; linked = l; inside = idle-fresh .inside; once = idle-fresh .once },
+          record { counted = w .counted; marks = λ y. ap (λ m. seen m y) (w .marked) ∙ idle-fresh .marks y },
+          w .unwiped,
+        )
+
+    -- where there is a chain, the answer tells of it
+    pub idle-tells : (xs : List ℕ) → Along after links met (free .head) xs → (r .ok ≡ true) × Adds met (r .length) met′ xs × (r .unwiped ≡ unwipedFrom values xs nullSlot)
+    idle-tells xs a =
+        let e = idle-finds xs (a .starts) (a .linked) (a .inside) (a .once) in
+        let k = ap (λ p. p .slots) e in (
+          w .ok ∙ ap (λ p. p .ok) e,
+          record {
+            counted = w .counted ∙ ap length k;
+            marks = λ y. ap (λ m. seen m y) (w .marked) ∙ idle-fresh .marks y ∙ ap (λ zs. seen met y + count y zs) k;
+          },
+          w .unwiped ∙ ap (λ zs. unwipedFrom values zs nullSlot) k,
+        )

@@ -4,7 +4,6 @@ use mathlib.Core.Bool.{false}
 use mathlib.Core.List.{List, [], _∷_, _++_}
 use Prim.Native.Nat.{ℕ, suc}
 use native.Mathlib.Omega.{arith}
-use lib.Bits.{bitXor}
 use lib.Dec.{eqb}
 use denote.Ref.{now}
 use borrow.Author.Needs.{needs}
@@ -62,7 +61,7 @@ loop-again c =
     let links = now (c .before .before .before .before .before .before .before .before .before .before .before .before .before .before .args .links) in (
       here e .loop .inv .0 ++ here e .loop .slot ∷ [],
       going-on (here e .loop .inv .1) (c .before .before .before .before .before .before .before .before .before .before .loop-test .taken) (omega arith) (fresh e) (c .before .before .before .mark .ensures)
-          (ap (λ i. bitXor (cell links i) (here e .loop .last)) (c .before .before .before .before .before .before .before .before .before .wide .ensures .0) ∙ ap (bitXor (cell links (here e .loop .slot))) (here e .loop .inv .2)),
+          (ap (λ i. liveOnward (here e .loop .last) (cell links i)) (c .before .before .before .before .before .before .before .before .before .wide .ensures .0) ∙ ap (λ l. liveOnward l (cell links (here e .loop .slot))) (here e .loop .inv .2)),
       sym (last-append nullSlot (here e .loop .inv .0) (here e .loop .slot ∷ [])),
     )
 
