@@ -22,7 +22,7 @@ mark-append met (x ∷ xs) ys = mark-append (markOf met x) xs ys
 mark-length : (met xs : List ℕ) → length (markAll met xs) ≡ length met
 unfolding markOf
 mark-length met [] = refl
-mark-length met (x ∷ xs) = mark-length (markOf met x) xs ∙ length-set met x 1
+mark-length met (x ∷ xs) = mark-length (markOf met x) xs ∙ length-set met x _
 
 -- the slots of `passed`, and then a path
 abbrev beyond : List ℕ → Path → Path
@@ -30,6 +30,10 @@ beyond passed path = record { ok = path .ok; slots = passed ++ path .slots }
 
 whole : {passed : List ℕ} (ok : Bool) → beyond passed (record { ok = ok; slots = [] }) ≡ record { ok = ok; slots = passed }
 whole {passed} ok = rw (append-nil passed)
+
+-- the slot after `slot`, which has `before` before it
+abbrev next : (onward : ℕ → ℕ → ℕ) (links : List ℕ) → ℕ → ℕ → ℕ
+next onward links before slot = onward before (cell links slot)
 
 module _ (onward : ℕ → ℕ → ℕ) (links : List ℕ) where
   -- ---- one step
@@ -48,7 +52,7 @@ module _ (onward : ℕ → ℕ → ℕ) (links : List ℕ) where
     stop-met n h m = rw (ne-eqb slot nullSlot n, lt-ltb slot (length links) h, m)
 
     pub pass-on : slot ≢ nullSlot → slot < length links → isMetOf met slot ≡ false
-        → walkOn onward links (suc steps) met before slot ≡ passing slot (walkOn onward links steps (markOf met slot) slot (onward before (cell links slot)))
+        → walkOn onward links (suc steps) met before slot ≡ passing slot (walkOn onward links steps (markOf met slot) slot (next onward links before slot))
     unfolding walkOn
     pass-on n h m = rw (ne-eqb slot nullSlot n, lt-ltb slot (length links) h, m)
 
@@ -66,7 +70,7 @@ module _ (onward : ℕ → ℕ → ℕ) (links : List ℕ) where
 -- the slot is passed, or the walk ends before it
 module _ {onward : ℕ → ℕ → ℕ} {links start : List ℕ} {head : ℕ} {passed met : List ℕ} {slot many : ℕ} (g : Going onward links start head passed met slot many) where
   on : slot ≢ nullSlot → slot < length links → isMetOf met slot ≡ false
-      → Going onward links start head (passed ++ slot ∷ []) (markOf met slot) (onward (lastOr nullSlot passed) (cell links slot)) (many + 1)
+      → Going onward links start head (passed ++ slot ∷ []) (markOf met slot) (next onward links (lastOr nullSlot passed) slot) (many + 1)
   on n h m =
       record {
         path = g .path
@@ -79,12 +83,12 @@ module _ {onward : ℕ → ℕ → ℕ} {links start : List ℕ} {head : ℕ} {p
       }
     where
       regroup : (last : ℕ) → slot ≡ last
-          → beyond passed (passing slot (walkOn onward links (suc (unmet (markOf met slot))) (markOf met slot) slot (onward (lastOr nullSlot passed) (cell links slot))))
-          ≡ beyond (passed ++ slot ∷ []) (walkOn onward links (suc (unmet (markOf met slot))) (markOf met slot) last (onward (lastOr nullSlot passed) (cell links slot)))
+          → beyond passed (passing slot (walkOn onward links (suc (unmet (markOf met slot))) (markOf met slot) slot (next onward links (lastOr nullSlot passed) slot)))
+          ≡ beyond (passed ++ slot ∷ []) (walkOn onward links (suc (unmet (markOf met slot))) (markOf met slot) last (next onward links (lastOr nullSlot passed) slot))
       regroup last e = rw (← e, append-assoc passed (slot ∷ []) _)
 
   pub going-on : {met′ : List ℕ} {slot′ : ℕ} → slot ≢ nullSlot → slot < length links → isMetOf met slot ≡ false
-      → met′ ≡ markOf met slot → slot′ ≡ onward (lastOr nullSlot passed) (cell links slot)
+      → met′ ≡ markOf met slot → slot′ ≡ next onward links (lastOr nullSlot passed) slot
       → Going onward links start head (passed ++ slot ∷ []) met′ slot′ (many + 1)
   going-on n h m d e = rw (d, e) (on n h m)
 

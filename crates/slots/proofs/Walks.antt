@@ -79,7 +79,7 @@ module _ (links : List ℕ) where
         (λ e. cond-ind P (ltb slot (length links) && not (isMetOf met slot))
         (λ h. let n = eqb-false slot nullSlot e in
         let (b, m) = and-both (ltb slot (length links)) (not (isMetOf met slot)) h in
-        (omega arith, ltb-true slot (length links) b, not-true (isMetOf met slot) m, walk-on-fresh steps (markOf met slot) slot (onward before (cell links slot))))
+        (omega arith, ltb-true slot (length links) b, not-true (isMetOf met slot) m, walk-on-fresh steps (markOf met slot) slot _))
         (λ h. tt))
 
     -- whether it comes to its end or not, a walk passes slots that were not met, each once, and marks just these

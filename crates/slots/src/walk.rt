@@ -3,6 +3,7 @@ use books::Book;
 use books::Free;
 ghost use mathlib.Core.Path.{_≡_};
 ghost use mathlib.Core.List.{[], _∷_};
+ghost use Rattle.chains.specs.Chain.{cell};
 ghost use Rattle.slots.specs.Walk.{unwipedFrom, IdleWalked};
 
 // Whether the walk came to the end, how many slots it passed, and the lowest of them that is not wiped, or 0.
@@ -51,11 +52,7 @@ pub fn walk_idle(links: &[u16], values: &[u64], met: &mut [u8], free: Free) -> I
 fn gather(values: &[u64], slot: u16, least: u16) -> u16
     ensures { λ r. ⌜ r ≡ unwipedFrom (now (values .entry)) (slot ∷ []) least ⌝ }
 {
-    let i = books::wide(slot);
-    if values.len() <= i {
-        return least;
-    }
-    if values[i] == Book::WIPE {
+    if value_of(values, slot) == Book::WIPE {
         return least;
     }
     if least == Book::NULL {
@@ -65,4 +62,15 @@ fn gather(values: &[u64], slot: u16, least: u16) -> u16
         return slot;
     }
     least
+}
+
+// The slot's value, or 0 past the end.
+fn value_of(values: &[u64], slot: u16) -> u64
+    ensures { λ r. ⌜ r ≡ cell (now (values .entry)) slot ⌝ }
+{
+    let i = books::wide(slot);
+    if i < values.len() {
+        return values[i];
+    }
+    0
 }
