@@ -3,3 +3,4 @@ pub mod Xor
 pub mod Count
 pub mod Chain
 pub mod Ends
+pub mod Cover

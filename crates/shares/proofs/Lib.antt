@@ -6,3 +6,5 @@ pub mod Fill
 pub mod Size
 pub mod Numbers
 pub mod Fresh
+pub mod Gather
+pub mod Checked

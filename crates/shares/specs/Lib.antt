@@ -3,3 +3,4 @@ pub mod Sound
 pub mod Size
 pub mod Numbers
 pub mod Setup
+pub mod Check

@@ -2,6 +2,7 @@
 use books::Book;
 use books::Refusal;
 
+pub mod check;
 pub mod setup;
 
 // The number of a call, and the book as it leaves it.
