@@ -158,3 +158,10 @@ module _ (links met : List ℕ) (free : Free) where
           },
           w .unwiped ∙ ap (λ zs. unwipedFrom values zs nullSlot) k,
         )
+
+-- each slot that is marked for the first time is one less to meet
+pub pass-unmet : (met xs : List ℕ) → ((y : ℕ) → seen met y + count y xs ≤ 1) → length xs + unmet (markAll met xs) ≡ unmet met
+pass-unmet met [] u = omega arith
+pass-unmet met (x ∷ xs) u =
+    let f = seen-unmet met x (omega (arith, u x, hit-same x)) in
+    omega (arith, unmet-mark met x f, pass-unmet (markOf met x) xs (λ y. omega (arith, u y, seen-mark met x y f)))
