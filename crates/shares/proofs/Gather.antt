@@ -6,24 +6,28 @@ use mathlib.Core.List.{List, [], _∷_, _++_}
 use Prim.Native.Nat.{ℕ, zero, suc, _+_, _≤_, _<_, suc-le-suc}
 use native.Mathlib.Nat.{suc-inj, le-of-suc-le-suc, not-suc-le-zero, zero-lt-suc}
 use native.Mathlib.Decide.{decLt}
+use native.Mathlib.Numerals.{add-one}
 use native.Mathlib.Omega.{arith}
 use lib.Dec.{ltb, eqb}
-use lib.ListN.{length, getD, length-append}
+use lib.ListN.{length, getD, drop, length-append, drop-of-length-le}
+use lib.Seq.{drop-cons}
 use borrow.Author.Tests.{eqb-true, eq-eqb, ne-eqb, lt-ltb, le-ltb}
 use Rattle.books.specs.declared.Entry.{Entry}
-use Rattle.books.specs.Book.{nullSlot, entryAt}
+use Rattle.books.specs.Book.{nullSlot, zeroEntry, entryAt}
 use Rattle.books.proofs.Tests.{and-both}
 use Rattle.chains.specs.Count.{count}
 use Rattle.chains.specs.Chain.{firstOr, lastOr, LiveChain}
 use Rattle.chains.proofs.Count.{count-append}
-use Rattle.slots.specs.Met.{markAll}
+use Rattle.slots.specs.Met.{markAll, unmet}
 use Rattle.slots.specs.Walk.{Path}
 use Rattle.slots.proofs.Seen.{seen}
-use Rattle.lists.specs.Walk.{livePath}
+use Rattle.slots.proofs.Walks.{pass-unmet}
+use Rattle.lists.specs.declared.walk.LiveWalk.{LiveWalk}
+use Rattle.lists.specs.Walk.{livePath, LiveWalked}
 use Rattle.lists.proofs.Walks.{live-fresh, live-only, live-finds}
 use Rattle.shares.specs.declared.check.Gathered.{Gathered}
 use Rattle.shares.specs.Sound.{joinedUp, lacks}
-use Rattle.shares.specs.Check.{endsWell, gatherOne, Round, gatherAll}
+use Rattle.shares.specs.Check.{endsWell, gatherOne, gatherFault, Round, round, gatherAll}
 
 -- the chains `cs` of the lists `es`, with no slot twice and none that was met
 pub record Walked (links met : List ℕ) (es : List Entry) (cs : List (List ℕ)) : Type 0 where
@@ -200,3 +204,25 @@ module _ (wanted lists : ℕ) (links : List ℕ) where
       let goes = gather-goes list e es met g q ∙ ap (λ (z : Path). gatherAll wanted lists links (suc list) es (markAll met (z .slots)) (gatherOne wanted lists list e (length (z .slots)) g)) path in
       subst (λ (z : Round). Sums wanted lists list met (e ∷ es) (xs ∷ cs) g z) (sym goes)
       (sums-more wanted lists list met e es xs cs g _ (markAll met xs) (omega arith) marked S)
+
+-- ---- one list at a time, as a loop takes them
+
+module _ (wanted lists : ℕ) (links met : List ℕ) (es : List Entry) (k : ℕ) (g : Gathered) where
+  pub gather-done : length es ≤ k → round g met ≡ gatherAll wanted lists links k (drop k es) met g
+  unfolding gatherAll
+  gather-done h = rw (drop-of-length-le es h)
+
+  module _ {w : LiveWalk} {met′ : List ℕ} (W : LiveWalked links met (entryAt es k) w met′) (b : k < length es) where
+    pub gather-next : w .ok ≡ true
+        → gatherAll wanted lists links (k + 1) (drop (k + 1) es) met′ (gatherOne wanted lists k (entryAt es k) (w .length) g) ≡ gatherAll wanted lists links k (drop k es) met g
+    gather-next h =
+        rw (drop-cons es k zeroEntry b, W .marked, W .counted, add-one)
+        (sym (gather-goes wanted lists links k (entryAt es k) (drop (suc k) es) met g (sym (W .ok) ∙ h)))
+
+    pub gather-halt : w .ok ≡ false → round (gatherFault k (w .length) g) met′ ≡ gatherAll wanted lists links k (drop k es) met g
+    unfolding gatherAll
+    gather-halt h = rw (drop-cons es k zeroEntry b, W .marked, W .counted, sym (W .ok) ∙ h)
+
+-- the slots that a list's walk passes are no longer to be met
+pub live-unmet : {links met : List ℕ} {list : Entry} {w : LiveWalk} {met′ : List ℕ} → LiveWalked links met list w met′ → w .length + unmet met′ ≡ unmet met
+live-unmet {links} {met} {list} W = rw (W .counted, W .marked) (pass-unmet met (livePath links met list .slots) (live-fresh links met list .once))

@@ -45,9 +45,9 @@ module _ (wanted lists : ℕ) where
         length = cond (eqb list wanted) many (g .length);
       }
 
-  -- rule 11: the first place of a live chain that is no fresh slot, or its length where it does not end at the tail
-  abbrev pub gatherFault : ℕ → ℕ → Gathered → Gathered
-  gatherFault list many g = record { fault = fault 11 list many; live = g .live; lacks = g .lacks; over = g .over; length = g .length }
+-- rule 11: the first place of a live chain that is no fresh slot, or its length where it does not end at the tail
+abbrev pub gatherFault : ℕ → ℕ → Gathered → Gathered
+gatherFault list many g = record { fault = fault 11 list many; live = g .live; lacks = g .lacks; over = g .over; length = g .length }
 
 -- what was gathered, and the record of slots met
 pub record Round : Type 0 where
@@ -64,7 +64,7 @@ gatherAll wanted lists links list (e ∷ es) met g =
     let path = livePath links met e in
     cond (endsWell path e)
     (gatherAll wanted lists links (suc list) es (markAll met (path .slots)) (gatherOne wanted lists list e (length (path .slots)) g))
-    (round (gatherFault wanted lists list (length (path .slots)) g) (markAll met (path .slots)))
+    (round (gatherFault list (length (path .slots)) g) (markAll met (path .slots)))
 
 -- the lowest slot from `slot` on that was not met
 abbrev pub lowestUnmet : List ℕ → ℕ → ℕ → ℕ
