@@ -1,4 +1,4 @@
--- The walk along a list's chain: the slot after one is its link XORed with the slot before it, and the last one is the list's tail.
+-- The walk along a list's chain: the slot after one is its link XORed with the slot before it. The last one is held against the list's tail.
 use mathlib.Core.Path.{_≡_}
 use mathlib.Core.Bool.{_&&_}
 use mathlib.Core.List.{List}

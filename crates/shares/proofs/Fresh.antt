@@ -1,13 +1,13 @@
 -- When setup gives each number, and that what it leaves is sound.
 use mathlib.Core.Path.{_≡_, refl, sym, ap, subst, _∙_}
-use mathlib.Core.Logic.{_↔_, _≢_, _⊎_, inl, inr}
+use mathlib.Core.Logic.{Iff·trans, _↔_, _≢_, _⊎_, inl, inr}
 use mathlib.Core.Bool.{Bool, true, false, cond, not, _&&_}
 use mathlib.Core.List.{List, [], _∷_, _++_}
 use Prim.Native.Nat.{ℕ, zero, suc, _+_, _-_, _≤_, _<_}
-use native.Mathlib.Nat.{not-suc-le-zero, eq-zero-or-pos}
-use native.Mathlib.Decide.{ℕ-discrete}
+use native.Mathlib.Nat.{le-of-suc-le-suc, not-suc-le-zero, eq-zero-or-pos}
+use native.Mathlib.Decide.{ℕ-discrete, decLt}
 use native.Mathlib.Omega.{arith}
-use lib.ListN.{length, getD, take, replicate, length-replicate}
+use lib.ListN.{length, getD, take, replicate, length-replicate, List·getD-eq-default}
 use lib.Seq.{length-take-le, getD-take}
 use lib.Dec.{ltb, eqb}
 use borrow.Author.Tests.{eqb-true, ne-eqb, lt-ltb, le-ltb}
@@ -26,7 +26,8 @@ use Rattle.chains.proofs.Chain.{Chain, linked-iff}
 use Rattle.shares.specs.Sound.{Shape, joinedUp, everySlot, lacks, Sound, SoundBook}
 use Rattle.shares.specs.Size.{SizesFit, sizesFit}
 use Rattle.shares.specs.Numbers.{firstThat, Given}
-use Rattle.shares.specs.Setup.{SetupRefused, setUp, tabulate, freshLink, freshValue, freshEntry, freshEntries, freshBook, setupTests, setupConditions, setupOf}
+use Rattle.lists.specs.Model.{newOf}
+use Rattle.shares.specs.Setup.{SetupRefused, SetupRules, SetupKeeps, addedUp, slotsFrom, setUp, tabulate, freshLink, freshValue, freshEntry, freshEntries, freshBook, setupTests, setupConditions, setupOf}
 use Rattle.shares.proofs.Size.{sizes-fit}
 use Rattle.shares.proofs.Fill.{tabulate-length, tabulate-at}
 use Rattle.shares.proofs.Numbers.{Matches, given}
@@ -37,9 +38,55 @@ pub refuted : (b : Bool) {P : Type 0} → (b ≡ true ↔ P) → (not b ≡ true
 refuted true i = (λ h. not-both true refl (sym h), λ n. absurd (n (i .0 refl)))
 refuted false i = (λ h p. not-both false (i .1 p) refl, λ n. refl)
 
+-- ---- the rules, of what the caller asks for
+
+fresh-shares : (n m : ℕ) (shares : List ℕ) (limit : ℕ → ℕ) → n ≤ m → sharesOf (take n (tabulate m (λ l. newOf (getD shares l 0) (limit l)))) ≡ addedUp (take n shares)
+unfolding tabulate
+fresh-shares zero m shares limit h = refl
+fresh-shares (suc n) zero shares limit h = absurd (not-suc-le-zero h)
+fresh-shares (suc n) (suc m) [] limit h = fresh-none (suc n) (suc m) limit
+  where
+    fresh-none : (n m : ℕ) (limit : ℕ → ℕ) → sharesOf (take n (tabulate m (λ l. newOf (getD [] l 0) (limit l)))) ≡ 0
+    fresh-none zero m limit = refl
+    fresh-none (suc n) zero limit = refl
+    fresh-none (suc n) (suc m) limit = omega (arith, fresh-none n m (λ l. limit (suc l)))
+fresh-shares (suc n) (suc m) (x ∷ shares) limit h = ap (λ k. x + k) (fresh-shares n m shares (λ l. limit (suc l)) (le-of-suc-le-suc h))
+
+module _ (size lists : ℕ) (shares limits : List ℕ) where
+  entry-is : (l : ℕ) → l < mostLists → entryAt (freshEntries shares limits) l ≡ freshEntry shares limits l
+  entry-is l h = tabulate-at zeroEntry mostLists (freshEntry shares limits) l h
+
+  -- the fresh book keeps the book rules exactly where what was asked for does
+  pub fresh-rules : BookRules size (freshBook lists shares limits) ↔ SetupRules size lists shares limits
+  fresh-rules = (to, from)
+    where
+      to : BookRules size (freshBook lists shares limits) → SetupRules size lists shares limits
+      to R =
+          record {
+            least = R .least;
+            most = R .most;
+            fair = λ l h. rw (entry-is l (omega (arith, R .most))) at (R .fair l h);
+            fits = rw (fresh-shares lists mostLists shares (λ l. getD limits l 0) (R .most)) at (R .fits);
+            unused = λ l h b. let e = sym (entry-is l b) ∙ R .unused l h in (ap (λ (d : Entry). d .share) e, ap (λ (d : Entry). d .limit) e);
+          }
+
+      from : SetupRules size lists shares limits → BookRules size (freshBook lists shares limits)
+      from R =
+          record {
+            least = R .least;
+            most = R .most;
+            fair = λ l h. rw (entry-is l (omega (arith, R .most))) (R .fair l h);
+            fits = rw (fresh-shares lists mostLists shares (λ l. getD limits l 0) (R .most)) (R .fits);
+            unused = λ l h. past l h (decLt l mostLists);
+          }
+        where
+          past : (l : ℕ) → lists ≤ l → Dec (l < mostLists) → entryAt (freshEntries shares limits) l ≡ zeroEntry
+          past l h (yes b) = let u = R .unused l h b in entry-is l b ∙ (λ i. newOf (u .0 i) (u .1 i))
+          past l h (no b) = List·getD-eq-default (freshEntries shares limits) zeroEntry (omega (arith, tabulate-length mostLists (freshEntry shares limits)))
+
 module _ (links values : List ℕ) (lists : ℕ) (shares limits : List ℕ) where
   setup-matches : Matches (setupTests links values lists shares limits) (setupConditions links values lists shares limits)
-  setup-matches = N.one refl (refuted (sizesFit (length links) (length values)) (sizes-fit (length links) (length values))) (N.one refl (refuted _ (keeps-rules (length links) _)) N.none)
+  setup-matches = N.one refl (refuted (sizesFit (length links) (length values)) (sizes-fit (length links) (length values))) (N.one refl (refuted _ (Iff·trans (keeps-rules (length links) _) (fresh-rules (length links) lists shares limits))) N.none)
 
   setup-number : setupOf links values lists shares limits .answer .refusal .number ≡ firstThat (setupTests links values lists shares limits)
   unfolding setupOf
@@ -55,11 +102,6 @@ module _ (links values : List ℕ) (lists : ℕ) (shares limits : List ℕ) wher
   setup-given = rw setup-number (given setup-matches)
 
 -- ---- the idle chain 1, 2, .. of a fresh pool
-
--- a, a + 1, .., n of them
-abbrev pub slotsFrom : ℕ → ℕ → List ℕ
-slotsFrom a zero = []
-slotsFrom a (suc n) = a ∷ slotsFrom (suc a) n
 
 from-length : (a n : ℕ) → length (slotsFrom a n) ≡ n
 from-length a zero = refl
@@ -196,8 +238,8 @@ module _ (links values : List ℕ) (lists : ℕ) (shares limits : List ℕ) wher
           → ((SizesFit (length links) (length values) × BookRules (length links) (freshBook lists shares limits)) × (r ≡ setUp links values lists shares limits))
           ⊎ ((r .answer .refusal .number ≢ 0) × SetupRefused links values r)
       go true true ea eb = inl ((sizes-fit (length links) (length values) .0 ea, keeps-rules (length links) _ .0 eb), rw (ea, eb))
-      go true false ea eb = inr (rw (ea, eb) (λ e. omega arith, record { zero = refl; sameLinks = refl; sameValues = refl }))
-      go false b ea eb = inr (rw ea (λ e. omega arith, record { zero = refl; sameLinks = refl; sameValues = refl }))
+      go true false ea eb = inr (rw (ea, eb) (λ e. omega arith, record { zeroed = refl; sameLinks = refl; sameValues = refl }))
+      go false b ea eb = inr (rw ea (λ e. omega arith, record { zeroed = refl; sameLinks = refl; sameValues = refl }))
 
   -- a refused setup returns the all-zero book, and neither slice changes
   pub setup-refused : r .answer .refusal .number ≢ 0 → SetupRefused links values r
@@ -223,4 +265,20 @@ module _ (links values : List ℕ) (lists : ℕ) (shares limits : List ℕ) wher
             pool = subst
                 (λ (m : ℕ). Sound (tabulate (length links) (freshLink (length links))) (tabulate m freshValue) (take lists (freshEntries shares limits)) (record { head = 1 }) (record { chains = replicate lists []; idle = slotsFrom 1 (length links - 1) }))
                 (f .same) (fresh-sound (length links) (length links - 1) lists shares limits (omega (arith, f .size .least)) (f .size) b);
+          })
+
+  -- a done setup has as many lists as were asked for, with the shares and limits that were given
+  pub setup-keeps : r .answer .refusal .number ≡ 0 → SetupKeeps lists shares limits r
+  setup-keeps z = go setup-way
+    where
+      go : ((SizesFit (length links) (length values) × BookRules (length links) (freshBook lists shares limits)) × (r ≡ setUp links values lists shares limits))
+          ⊎ ((r .answer .refusal .number ≢ 0) × SetupRefused links values r) → SetupKeeps lists shares limits r
+      go (inr w) = absurd (w .0 z)
+      go (inl w) =
+          rw (w .1)
+          (record {
+            asMany = refl;
+            share = λ l b. ap (λ (d : Entry). d .share) (entry-is (length links) lists shares limits l b);
+            limit = λ l b. ap (λ (d : Entry). d .limit) (entry-is (length links) lists shares limits l b);
+            free = refl;
           })

@@ -1,4 +1,4 @@
--- A push or a pop on one list of a sound pool leaves it sound, with the shape that the step says.
+-- Slots that move between one list of a sound pool and its idle chain leave it sound: the law that pushes, pops and clear cite.
 use mathlib.Core.Path.{_≡_, sym, _∙_}
 use mathlib.Core.Logic.{_≢_}
 use mathlib.Core.List.{List, []}

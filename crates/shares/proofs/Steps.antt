@@ -1,6 +1,7 @@
 -- On a sound pool a push is done wherever neither 6 nor 7 applies, a pop wherever the list is not empty, and both leave it sound.
 use mathlib.Core.Path.{_≡_, refl, sym, ap, subst, _∙_}
 use mathlib.Core.Logic.{_≢_, _⊎_, inl, inr}
+use mathlib.Core.Bool.{true}
 use mathlib.Core.List.{List, [], _∷_, _++_, reverse}
 use Prim.Native.Nat.{ℕ, suc, _+_, _-_, _≤_, _<_}
 use native.Mathlib.Nat.{eq-zero-or-pos}
@@ -27,7 +28,7 @@ use Rattle.lists.specs.declared.clear.Cleared.{Cleared}
 use Rattle.lists.specs.Clear.{clearOn, Empties}
 use Rattle.lists.proofs.Ends.{push-held, pop-held}
 use Rattle.lists.proofs.Clearing.{clear-held}
-use Rattle.shares.specs.Sound.{Shape, chainAt, lacks, Sound}
+use Rattle.shares.specs.Sound.{Shape, chainAt, lacks, Sound, Room}
 use Rattle.shares.proofs.Shape.{lacks-part, no-null, part}
 use Rattle.shares.proofs.Kept.{put, sound-held, sound-put}
 
@@ -66,11 +67,6 @@ among s lead slot y d k = go (ℕ-discrete lead nullSlot)
 
 -- ---- push
 
--- neither 6 nor 7: the list is under its limit, and has not its share or leaves enough for the others
-pub record Room (es : List Entry) (s : Shape) (l : ℕ) : Type 0 where
-  pub under : length (chainAt s l) < entryAt es l .limit
-  pub enough : (length (chainAt s l) < entryAt es l .share) ⊎ (lacks es (s .chains) < length (s .idle))
-
 module _ {links values : List ℕ} {es : List Entry} {free : Free} {s : Shape} (S : Sound links values es free s) (l : ℕ) (b : l < length es) (room : Room es s l) where
   -- where there is room there is a free slot
   pub room-slot : 0 < length (s .idle)
@@ -82,6 +78,10 @@ module _ {links values : List ℕ} {es : List Entry} {free : Free} {s : Shape} (
 
 module _ {links values : List ℕ} {es : List Entry} {free : Free} {cs : List (List ℕ)} {f : ℕ} {fs : List ℕ} (S : Sound links values es free (record { chains = cs; idle = f ∷ fs }))
     (l : ℕ) (b : l < length es) (value : ℕ) where
+  -- where a slot is free the step is not refused
+  pub push-goes : (end : End) → pushOf end links values (entryAt es l) free value .answer .done ≡ true
+  push-goes end = push-held value end (sound-held S l b) .done
+
   pub push-sound : (end : End) → Room es (record { chains = cs; idle = f ∷ fs }) l
       → Sound (pushOf end links values (entryAt es l) free value .links) (pushOf end links values (entryAt es l) free value .values)
       (set es l (pushOf end links values (entryAt es l) free value .answer .entry)) (pushOf end links values (entryAt es l) free value .answer .free)
@@ -123,6 +123,10 @@ module _ {links values : List ℕ} {es : List Entry} {free : Free} {cs : List (L
 -- ---- pop
 
 module _ {links values : List ℕ} {es : List Entry} {free : Free} {s : Shape} (S : Sound links values es free s) (l : ℕ) (b : l < length es) (x : ℕ) (xs : List ℕ) where
+  -- a list that holds something is popped
+  pub pop-goes : (end : End) → chainAt s l ≡ joined end x xs → popOf end links values (entryAt es l) free .answer .done ≡ true
+  pop-goes end at = pop-held {xs = xs} end (subst (λ (zs : List ℕ). Held links values (entryAt es l) free zs (s .idle)) at (sound-held S l b)) .done
+
   pub pop-sound : (end : End) → chainAt s l ≡ joined end x xs
       → Sound (popOf end links values (entryAt es l) free .links) (popOf end links values (entryAt es l) free .values)
       (set es l (popOf end links values (entryAt es l) free .answer .entry)) (popOf end links values (entryAt es l) free .answer .free) (put s l xs (x ∷ s .idle))

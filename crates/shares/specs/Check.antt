@@ -1,4 +1,4 @@
--- The check as a test that runs, in stages, in the order of 02 b)'s rules 9 to 15. What it means is `Sound`; the law `check-exactly` says that it finds no fault exactly there.
+-- The check as a test that runs, in stages, in the order of 02 b)'s rules 9 to 15. What it means is `Sound`: on sizes that fit, the law `check-exactly` says that it finds no fault exactly there. No law speaks yet of the list and the place of a fault.
 use mathlib.Core.Bool.{Bool, cond, _&&_}
 use mathlib.Core.List.{List, [], _∷_}
 use Prim.Native.Nat.{ℕ, zero, suc, _+_, _-_}
@@ -22,10 +22,11 @@ fault rule list place = record { rule = rule; list = list; place = place }
 abbrev pub noFault : Fault
 noFault = fault 0 0 0
 
--- before the first list: nothing was met, and no list is over its limit
+-- before the first list nothing was met
 unfoldable pub nothingMet : List ℕ
 nothingMet = replicate largestPool 0
 
+-- and no list is over its limit
 abbrev pub gatheredNone : ℕ → Gathered
 gatheredNone lists = record { fault = noFault; live = 0; lacks = 0; over = lists; length = 0 }
 
@@ -109,7 +110,7 @@ poolFound wanted links values es free =
     (record { fault = r .gathered .fault; length = 0; lacks = 0; free = 0 }))
     (record { fault = fault 10 0 0; length = 0; lacks = 0; free = 0 })
 
--- the whole check: rule 9 first
+-- the whole check, rule 9 first. Its length, lacks and free slots mean something where it finds no fault alone
 unfoldable pub checkFound : ℕ → List ℕ → List ℕ → Book → Found
 checkFound wanted links values b =
     cond (keepsRules (length links) b)

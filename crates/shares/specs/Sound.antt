@@ -1,5 +1,6 @@
 -- What it is for a pool with its book to be sound: document 01, "The pool and the book", clause by clause. It runs no walk.
 use mathlib.Core.Path.{_≡_}
+use mathlib.Core.Logic.{_⊎_}
 use mathlib.Core.List.{List, [], _∷_, _++_}
 use Prim.Native.Nat.{ℕ, _+_, _-_, _≤_, _<_}
 use lib.ListN.{length, getD, take}
@@ -67,3 +68,8 @@ pub record Sound (links values : List ℕ) (es : List Entry) (free : Free) (s : 
 pub record SoundBook (links values : List ℕ) (b : Book) (s : Shape) : Type 0 where
   pub rules : BookRules (length links) b
   pub pool : Sound links values (take (b .lists) (b .entries)) (b .free) s
+
+-- neither 6 nor 7: the list is under its limit, and has not its share or leaves enough for the others
+pub record Room (es : List Entry) (s : Shape) (l : ℕ) : Type 0 where
+  pub under : length (chainAt s l) < entryAt es l .limit
+  pub enough : (length (chainAt s l) < entryAt es l .share) ⊎ (lacks es (s .chains) < length (s .idle))

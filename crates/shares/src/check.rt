@@ -1,4 +1,4 @@
-// What the check gathers on its way along the lists, and where it finds a pool unsound.
+// The check's way along the lists: what it gathers, and where it would find a pool unsound.
 use books::Entry;
 ghost use mathlib.Core.Path.{_≡_};
 ghost use mathlib.Core.Bool.{cond, _&&_};
@@ -7,7 +7,7 @@ ghost use lib.Dec.{eqb, ltb};
 ghost use lib.ListN.{take};
 ghost use Rattle.shares.specs.Check.{gatherOne, gatherFault, gatheredNone, round, gatherAll};
 
-// The first rule that is broken, with a list and a place where these apply. Rule 0 is none.
+// The first rule that is broken, with a list and a place, 0 where none applies. Rule 0 is no fault.
 // 9 is L, shares and limits; 10 slot 0; 11 a live chain; 12 the idle chain; 13 a slot in no chain; 14 a free slot that is not wiped; 15 limits and shares.
 #[repr(C)]
 pub struct Fault {

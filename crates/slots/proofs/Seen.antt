@@ -1,12 +1,15 @@
 -- Laws of the record of slots met: marking a slot that was not met adds it to the slots seen, and leaves one fewer to meet.
 use mathlib.Core.Path.{_≡_, refl, ap}
-use mathlib.Core.Bool.{Bool, true, false, cond}
+use mathlib.Core.Logic.{_≢_}
+use mathlib.Core.Bool.{Bool, true, false, cond, not}
 use mathlib.Core.List.{List, [], _∷_}
 use Prim.Native.Nat.{ℕ, zero, suc, _+_, _≤_, _<_}
 use native.Mathlib.Nat.{le-of-suc-le-suc, not-suc-le-zero}
+use native.Mathlib.Decide.{decLt}
 use native.Mathlib.Omega.{arith}
-use lib.Dec.{eqb·suc-zero}
-use lib.ListN.{length, getD, replicate, getD-replicate, length-replicate, List·getD-eq-default}
+use lib.Dec.{eqb, eqb·suc-zero}
+use lib.ListN.{length, getD, set, length-set, replicate, getD-replicate, length-replicate, List·getD-eq-default}
+use lib.Seq.{getD-set-same, getD-set-other}
 use Rattle.books.proofs.Tests.{not-both}
 use Rattle.chains.specs.Count.{hit}
 use Rattle.slots.specs.Met.{isMetOf, markOf, unmet}
@@ -81,3 +84,16 @@ pub read-any : (cells : List ℕ) (i a b : ℕ) → i < length cells → getD ce
 read-any [] i a b h = absurd (not-suc-le-zero h)
 read-any (x ∷ xs) zero a b h = refl
 read-any (x ∷ xs) (suc i) a b h = read-any xs i a b (le-of-suc-le-suc h)
+
+-- marking, on any record: the slot is met then, and every other is as it was
+pub mark-met : (met : List ℕ) (x : ℕ) → isMetOf (markOf met x) x ≡ true
+unfolding isMetOf markOf
+mark-met met x = go (decLt x (length met))
+  where
+    go : Dec (x < length met) → not (eqb (getD (set met x 1) x 1) 0) ≡ true
+    go (yes h) = rw (getD-set-same met x 1 1 h)
+    go (no h) = rw (List·getD-eq-default (set met x 1) 1 {n = x} (omega (arith, length-set met x 1)))
+
+pub mark-other : (met : List ℕ) (x y : ℕ) → y ≢ x → isMetOf (markOf met x) y ≡ isMetOf met y
+unfolding isMetOf markOf
+mark-other met x y d = rw (getD-set-other met x y 1 1 d)

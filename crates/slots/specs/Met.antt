@@ -16,7 +16,7 @@ abbrev pub markAll : List ℕ → List ℕ → List ℕ
 markAll met [] = met
 markAll met (x ∷ xs) = markAll (markOf met x) xs
 
--- how many slots the record still has to meet
+-- how many places of the record are not marked
 unfoldable pub unmet : List ℕ → ℕ
 unmet [] = 0
 unmet (zero ∷ met) = suc (unmet met)

@@ -20,7 +20,7 @@ abbrev pub passing : ℕ → Path → Path
 passing slot path = record { ok = path .ok; slots = slot ∷ path .slots }
 
 -- `onward p v` is the slot after one whose link is v and that has p before it.
--- From `slot`, with `before` before it: a slot of N or more, or one that was met, is not passed. Each step marks a slot, so `steps` never run out
+-- From `slot`, with `before` before it: a slot of N or more, or one that was met, is not passed. `walkFrom` has more steps than there are slots to mark, so they never run out
 unfoldable pub walkOn : (onward : ℕ → ℕ → ℕ) (links : List ℕ) → ℕ → List ℕ → ℕ → ℕ → Path
 walkOn onward links zero met before slot = record { ok = false; slots = [] }
 walkOn onward links (suc steps) met before slot =
@@ -37,10 +37,11 @@ walkFrom onward links met head = walkOn onward links (suc (unmet met)) met nullS
 abbrev pub idleOnward : ℕ → ℕ → ℕ
 idleOnward before link = link
 
--- the lowest slot of a sequence whose value is not the wipe word, or 0
+-- the lower of a slot and the least one so far, which is 0 for none
 abbrev pub lower : ℕ → ℕ → ℕ
 lower slot least = cond (eqb least nullSlot) slot (cond (ltb slot least) slot least)
 
+-- the lowest slot of a sequence whose value is not the wipe word, from the least one so far on
 abbrev pub unwipedFrom : List ℕ → List ℕ → ℕ → ℕ
 unwipedFrom values [] least = least
 unwipedFrom values (x ∷ xs) least = unwipedFrom values xs (cond (eqb (cell values x) wipeWord) least (lower x least))
