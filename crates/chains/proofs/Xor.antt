@@ -29,6 +29,9 @@ xor-half a b = ap (λ x. x / 2) (xor-step a b) ∙ digits-div (bitXor (a / 2) (b
 xor-bit : (a b : ℕ) → bitXor a b % 2 ≡ differ (a % 2) (b % 2)
 xor-bit a b = ap (λ x. x % 2) (xor-step a b) ∙ digits-mod (bitXor (a / 2) (b / 2)) (bit-lt a b)
 
+pub xor-commutes : (a b : ℕ) → bitXor a b ≡ bitXor b a
+xor-commutes a b = xor-comm a b
+
 pub xor-assoc : (a b c : ℕ) → bitXor (bitXor a b) c ≡ bitXor a (bitXor b c)
 xor-assoc =
     bin-ind (λ a. (b c : ℕ) → bitXor (bitXor a b) c ≡ bitXor a (bitXor b c)) (λ b c. refl)
