@@ -2,3 +2,5 @@
 pub mod Tests
 pub mod Rules
 pub mod Numbers
+pub mod Tabulate
+pub mod Table

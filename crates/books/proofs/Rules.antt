@@ -6,15 +6,14 @@ use mathlib.Core.List.{List, [], _∷_}
 use Prim.Native.Nat.{ℕ, zero, suc, _+_, _-_, _≤_, _<_, suc-le-suc}
 use native.Mathlib.Nat.{le-of-suc-le-suc, not-suc-le-zero, zero-lt-suc}
 use native.Mathlib.Numerals.{add-one}
-use native.Mathlib.Decide.{decLt}
+use native.Mathlib.Decide.{decLt, ℕ-discrete}
 use native.Mathlib.Omega.{arith}
 use lib.Dec.{leb, ltb, eqb}
-use lib.ListN.{length, take, drop, length-take, drop-of-length-le, List·getD-eq-default}
-use lib.Seq.{drop-cons, getD-take, getD-drop}
+use lib.ListN.{length, set, take, drop, length-set, length-take, drop-of-length-le}
+use lib.Seq.{drop-cons, length-take-le, getD-take, getD-drop, getD-set-same, getD-set-other, take-set-lt}
 use borrow.Author.Tests.{leb-true, le-leb, ltb-true, lt-ltb, eqb-true}
 use Rattle.books.specs.declared.Entry.{Entry}
-use Rattle.books.specs.declared.Book.{Book}
-use Rattle.books.specs.Book.{mostLists, smallestPool, largestPool, zeroEntry, entryAt}
+use Rattle.books.specs.Book.{AnyBook, smallestPool, largestPool, zeroEntry, entryAt}
 use Rattle.books.specs.Rules.{Size, sharesOf, Rules, BookRules}
 use Rattle.books.specs.Test.{sizeFits, isFair, isZero, gather, allZero, rulesHold, keepsRules}
 use Rattle.books.proofs.Tests.{and-both, both-and}
@@ -100,23 +99,18 @@ zero-all (e ∷ es) h = both-and _ _ (zero-iff e .1 (h zero)) (zero-all es (λ l
 pub rules-hold : (size places lists : ℕ) (es : List Entry) → rulesHold size places lists es ≡ true ↔ Rules size places lists es
 rules-hold size places lists es = (to, from)
   where
-    fairAt : ((l : ℕ) → l < length (take lists es) → Fair size (entryAt (take lists es) l)) → 0 < size → (l : ℕ) → l < lists → Fair size (entryAt es l)
-    fairAt f p l b = go (decLt l (length (take lists es)))
-      where
-        go : Dec (l < length (take lists es)) → Fair size (entryAt es l)
-        go (yes c) = rw (getD-take lists es l zeroEntry b) at (f l c)
-        go (no c) = rw (sym (getD-take lists es l zeroEntry b) ∙ List·getD-eq-default (take lists es) zeroEntry (omega arith)) (omega arith, p)
-
     to : rulesHold size places lists es ≡ true → Rules size places lists es
     to h =
         let a = and-both (leb 1 lists) _ h in
         let b = and-both (leb lists places) _ (a .1) in
-        let c = and-both (gather size (take lists es) 0) (allZero (drop lists es)) (b .1) in
+        let d = and-both (leb lists (length es)) _ (b .1) in
+        let c = and-both (gather size (take lists es) 0) (allZero (drop lists es)) (d .1) in
         let g = all-fair size (take lists es) 0 (c .0) in
         record {
           least = leb-true 1 lists (a .0);
           most = leb-true lists places (b .0);
-          fair = fairAt (g .0) (omega (arith, g .1));
+          there = leb-true lists (length es) (d .0);
+          fair = λ l b. rw (getD-take lists es l zeroEntry b) at (g .0 l (omega (arith, length-take-le lists es (leb-true lists (length es) (d .0)))));
           fits = omega (arith, g .1);
           unused = λ l k. ap (entryAt es) (omega arith) ∙ sym (getD-drop lists es (l - lists) zeroEntry) ∙ all-zero (drop lists es) (c .1) (l - lists);
         }
@@ -125,14 +119,40 @@ rules-hold size places lists es = (to, from)
     from r =
         both-and _ _ (le-leb 1 lists (r .least))
         (both-and _ _ (le-leb lists places (r .most))
+        (both-and _ _ (le-leb lists (length es) (r .there))
         (both-and _ _
         (fair-all size (take lists es) 0 (λ l b. inside l b (decLt l lists)) (omega (arith, r .fits)))
-        (zero-all (drop lists es) (λ l. getD-drop lists es l zeroEntry ∙ r .unused (lists + l) (omega arith)))))
+        (zero-all (drop lists es) (λ l. getD-drop lists es l zeroEntry ∙ r .unused (lists + l) (omega arith))))))
       where
         inside : (l : ℕ) → l < length (take lists es) → Dec (l < lists) → Fair size (entryAt (take lists es) l)
         inside l b (yes c) = rw (getD-take lists es l zeroEntry c) (r .fair l c)
         inside l b (no c) = absurd (omega (arith, length-take lists es))
 
-pub keeps-rules : (size : ℕ) (b : Book) → keepsRules size b ≡ true ↔ BookRules size b
+pub keeps-rules : (size : ℕ) (b : AnyBook) → keepsRules size b ≡ true ↔ BookRules size b
 unfolding keepsRules
-keeps-rules size b = rules-hold size mostLists (b .lists) (b .entries)
+keeps-rules size b = rules-hold size (b .places) (b .lists) (b .entries)
+
+-- ---- one entry of the book changes, but not its share and limit
+
+shares-set : (es : List Entry) (l : ℕ) (e : Entry) → e .share ≡ entryAt es l .share → sharesOf (set es l e) ≡ sharesOf es
+shares-set [] l e h = refl
+shares-set (d ∷ es) zero e h = omega arith
+shares-set (d ∷ es) (suc l) e h = omega (arith, shares-set es l e h)
+
+-- then the book rules stay
+pub rules-set : {size places lists : ℕ} {es : List Entry} → Rules size places lists es → (l : ℕ) (e : Entry) → l < lists → e .share ≡ entryAt es l .share → e .limit ≡ entryAt es l .limit
+    → Rules size places lists (set es l e)
+rules-set {size} {places} {lists} {es} R l e below sh li =
+    record {
+      least = R .least;
+      most = R .most;
+      there = omega (arith, R .there, length-set es l e);
+      fair = λ k h. fair k (R .fair k h) (ℕ-discrete k l);
+      fits = rw (take-set-lt lists es l e below) (omega (arith, R .fits, shares-set (take lists es) l e (rw (getD-take lists es l zeroEntry below) sh)));
+      unused = λ k h. getD-set-other es l k e zeroEntry (λ i. omega arith) ∙ R .unused k h;
+    }
+  where
+    fair : (k : ℕ) → (entryAt es k .share ≤ entryAt es k .limit) × (entryAt es k .limit < size) → Dec (k ≡ l)
+        → (entryAt (set es l e) k .share ≤ entryAt (set es l e) k .limit) × (entryAt (set es l e) k .limit < size)
+    fair k f (yes i) = rw (i, getD-set-same es l e zeroEntry (omega (arith, R .there)), sh, li) (rw i at f)
+    fair k f (no i) = rw (getD-set-other es l k e zeroEntry i) f

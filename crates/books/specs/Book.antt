@@ -2,6 +2,7 @@
 use mathlib.Core.List.{List, [], _∷_, _++_}
 use Prim.Native.Nat.{ℕ}
 use lib.ListN.{getD, replicate}
+use Rattle.books.specs.declared.Free.{Free}
 use Rattle.books.specs.declared.Entry.{Entry}
 use Rattle.books.specs.declared.Book.{Book}
 
@@ -34,6 +35,21 @@ entryAt es l = getD es l zeroEntry
 
 abbrev pub zeroBook : Book
 zeroBook = record { lists = 0; entries = replicate mostLists zeroEntry; free = record { head = 0 } }
+
+-- a book with room for any number of lists: how many, how many lists there are, an entry for each, and the idle chain
+pub record AnyBook : Type 0 where
+  pub places : ℕ
+  pub lists : ℕ
+  pub entries : List Entry
+  pub free : Free
+
+-- the book of eight entries is one of them
+abbrev pub eight : Book → AnyBook
+eight b = record { places = mostLists; lists = b .lists; entries = b .entries; free = b .free }
+
+-- and is told back from it
+abbrev pub bookOf : AnyBook → Book
+bookOf b = record { lists = b .lists; entries = b .entries; free = b .free }
 
 -- the book as the words of its record, in their order
 abbrev pub entryWords : List Entry → List ℕ

@@ -3,3 +3,5 @@ pub mod Book
 pub mod Rules
 pub mod Test
 pub mod Outcome
+pub mod Tabulate
+pub mod Table

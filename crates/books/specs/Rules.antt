@@ -2,10 +2,9 @@
 use mathlib.Core.Path.{_≡_}
 use mathlib.Core.List.{List, [], _∷_}
 use Prim.Native.Nat.{ℕ, _+_, _≤_, _<_}
-use lib.ListN.{take}
+use lib.ListN.{length, take}
 use Rattle.books.specs.declared.Entry.{Entry}
-use Rattle.books.specs.declared.Book.{Book}
-use Rattle.books.specs.Book.{smallestPool, largestPool, mostLists, zeroEntry, entryAt}
+use Rattle.books.specs.Book.{smallestPool, largestPool, zeroEntry, entryAt, AnyBook}
 
 -- 01: "N runs from 2 to 4,096"
 pub record Size (size : ℕ) : Type 0 where
@@ -22,6 +21,8 @@ pub record Rules (size places lists : ℕ) (es : List Entry) : Type 0 where
   -- 01: "L is 1 to 8"
   pub least : 1 ≤ lists
   pub most : lists ≤ places
+  -- each list has its entry
+  pub there : lists ≤ length es
   -- 01: "share ≤ limit ≤ N-1 for each list"
   pub fair : (l : ℕ) → l < lists → (entryAt es l .share ≤ entryAt es l .limit) × (entryAt es l .limit < size)
   -- 01: "the shares add up to at most N-1"
@@ -29,6 +30,6 @@ pub record Rules (size places lists : ℕ) (es : List Entry) : Type 0 where
   -- 01: "entries from L on are all 0"
   pub unused : (l : ℕ) → lists ≤ l → entryAt es l ≡ zeroEntry
 
--- the rules of the book of eight entries
-abbrev pub BookRules : ℕ → Book → Type 0
-BookRules size b = Rules size mostLists (b .lists) (b .entries)
+-- the rules of a book
+abbrev pub BookRules : ℕ → AnyBook → Type 0
+BookRules size b = Rules size (b .places) (b .lists) (b .entries)

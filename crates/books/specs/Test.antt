@@ -3,10 +3,9 @@ use mathlib.Core.Bool.{Bool, true, _&&_}
 use mathlib.Core.List.{List, [], _∷_}
 use Prim.Native.Nat.{ℕ, _+_}
 use lib.Dec.{leb, ltb, eqb}
-use lib.ListN.{take, drop}
+use lib.ListN.{length, take, drop}
 use Rattle.books.specs.declared.Entry.{Entry}
-use Rattle.books.specs.declared.Book.{Book}
-use Rattle.books.specs.Book.{smallestPool, largestPool, mostLists}
+use Rattle.books.specs.Book.{smallestPool, largestPool, AnyBook}
 
 abbrev pub sizeFits : ℕ → Bool
 sizeFits size = leb smallestPool size && leb size largestPool
@@ -27,8 +26,8 @@ allZero [] = true
 allZero (e ∷ es) = isZero e && allZero es
 
 abbrev pub rulesHold : ℕ → ℕ → ℕ → List Entry → Bool
-rulesHold size places lists es = leb 1 lists && (leb lists places && (gather size (take lists es) 0 && allZero (drop lists es)))
+rulesHold size places lists es = leb 1 lists && (leb lists places && (leb lists (length es) && (gather size (take lists es) 0 && allZero (drop lists es))))
 
--- the book of eight entries; the law `keeps-rules` says that it is true exactly where `BookRules` holds
-unfoldable pub keepsRules : ℕ → Book → Bool
-keepsRules size b = rulesHold size mostLists (b .lists) (b .entries)
+-- of a book; the law `keeps-rules` says that it is true exactly where `BookRules` holds
+unfoldable pub keepsRules : ℕ → AnyBook → Bool
+keepsRules size b = rulesHold size (b .places) (b .lists) (b .entries)

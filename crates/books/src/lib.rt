@@ -1,8 +1,10 @@
 // The records of a pool's book, which no engine owns: what the book is, its constants, and whether it keeps the book rules.
+pub mod rows;
+
 ghost use mathlib.Core.Path.{_≡_};
 ghost use Prim.Native.Nat.{_≤_, _<_};
 ghost use lib.ListN.{take, drop};
-ghost use Rattle.books.specs.Book.{zeroEntry, zeroBook};
+ghost use Rattle.books.specs.Book.{zeroEntry, zeroBook, eight};
 ghost use Rattle.books.specs.Test.{sizeFits, isFair, isZero, gather, allZero, keepsRules};
 
 // The idle chain: its first slot, or 0. It is passed whole, so that a new field changes no signature.
@@ -83,7 +85,7 @@ impl Book {
 
     // Does the book keep the book rules in a pool of so many slots?
     pub fn keeps_rules(self, size: usize) -> bool
-        ensures { λ r. ⌜ r ≡ keepsRules size self ⌝ }
+        ensures { λ r. ⌜ r ≡ keepsRules size (eight self) ⌝ }
     {
         let lists = self.lists;
         let entries = self.entries;

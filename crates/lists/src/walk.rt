@@ -1,6 +1,12 @@
 // The walk along a list's chain: each slot that it passes is marked, and the last one is held against the list's tail.
+// And what the slots below have to say of the idle chain and of the slots met, handed up.
 use books::Book;
 use books::Entry;
+use books::Free;
+use slots::walk::IdleWalk;
+ghost use mathlib.Core.Path.{_≡_};
+ghost use Rattle.slots.specs.Met.{isMetOf};
+ghost use Rattle.slots.specs.Walk.{IdleWalked};
 ghost use Rattle.lists.specs.Walk.{LiveWalked};
 
 // Whether the walk came to its end at the list's tail, and how many slots it passed.
@@ -34,4 +40,18 @@ pub fn walk_live(links: &[u16], met: &mut [u8], list: Entry) -> LiveWalk
         ok: last == list.tail,
         length,
     }
+}
+
+// The walk along the idle chain, as `slots` walks it.
+pub fn walk_idle(links: &[u16], values: &[u64], met: &mut [u8], free: Free) -> IdleWalk
+    ensures { λ r. ⌜ IdleWalked (now (links .entry)) (now (values .entry)) (now (met .entry)) free r (now (met .exit)) ⌝ }
+{
+    slots::walk::walk_idle(links, values, met, free)
+}
+
+// Was the slot met?
+pub fn is_met(met: &[u8], slot: u16) -> bool
+    ensures { λ r. ⌜ r ≡ isMetOf (now (met .entry)) slot ⌝ }
+{
+    slots::met::is_met(met, slot)
 }

@@ -12,8 +12,7 @@ use lib.ListN.{length, take, length-append}
 use borrow.Author.Tests.{eqb-true, eqb-false, eq-eqb, leb-true, le-leb}
 use Rattle.books.specs.declared.Free.{Free}
 use Rattle.books.specs.declared.Entry.{Entry}
-use Rattle.books.specs.declared.Book.{Book}
-use Rattle.books.specs.Book.{nullSlot, largestPool}
+use Rattle.books.specs.Book.{nullSlot, largestPool, AnyBook}
 use Rattle.books.specs.Rules.{Size}
 use Rattle.books.specs.Test.{keepsRules}
 use Rattle.books.proofs.Tests.{and-both, both-and}
@@ -22,14 +21,16 @@ use Rattle.chains.specs.Count.{count}
 use Rattle.chains.specs.Chain.{cell}
 use Rattle.chains.proofs.Count.{count-append}
 use Rattle.chains.proofs.Cover.{full-once, once-full}
+use Rattle.slots.specs.Met.{markAll}
 use Rattle.slots.specs.Walk.{Path, unwipedFrom, idlePath}
 use Rattle.slots.proofs.Seen.{seen, seen-le, seen-none}
 use Rattle.slots.proofs.Walks.{idle-fresh, idle-only, idle-finds}
 use Rattle.slots.proofs.Unwiped.{unwiped-none}
 use Rattle.shares.specs.declared.check.Fault.{Fault}
+use Rattle.shares.specs.declared.check.Gathered.{Gathered}
 use Rattle.shares.specs.Sound.{Shape, chainAt, joinedUp, everySlot, lacks, Sound, SoundBook}
 use Rattle.shares.specs.Size.{SizesFit}
-use Rattle.shares.specs.Check.{nothingMet, gatheredNone, Round, gatherAll, idleFault, nullSlotZero, poolFound, checkFound}
+use Rattle.shares.specs.Check.{nothingMet, gatheredNone, Round, gatherAll, idleFault, spareFault, nullSlotZero, poolFound, checkFound}
 use Rattle.shares.proofs.Shape.{at-most, no-null, part}
 use Rattle.shares.proofs.Gather.{Walked, Sums, gather-told, gather-tells}
 
@@ -39,30 +40,31 @@ past true x y d h = (refl, h)
 past false x y d h = absurd (d h)
 
 -- what the idle stages ask
-record Idle (links values : List ℕ) (lists : ℕ) (r : Round) (path : Path) : Type 0 where
-  ended : path .ok ≡ true
-  all : suc (r .gathered .live + length (path .slots)) ≡ length links
-  wiped : unwipedFrom values (path .slots) nullSlot ≡ nullSlot
-  short : r .gathered .over ≡ lists
-  spare : r .gathered .lacks ≤ length (path .slots)
+record Idle (size lists : ℕ) (g : Gathered) (ended : Bool) (free unwiped : ℕ) : Type 0 where
+  came : ended ≡ true
+  all : g .live + free + 1 ≡ size
+  clean : unwiped ≡ nullSlot
+  short : g .over ≡ lists
+  spare : g .lacks ≤ free
 
-idle-none : (links values : List ℕ) (lists : ℕ) (r : Round) (path : Path) → idleFault links values lists r path .rule ≡ 0 ↔ Idle links values lists r path
-idle-none links values lists r path = (to, from)
+idle-none : (met : List ℕ) (size lists : ℕ) (g : Gathered) (ended : Bool) (free unwiped : ℕ) → idleFault met size lists g ended free unwiped .rule ≡ 0 ↔ Idle size lists g ended free unwiped
+unfolding idleFault spareFault
+idle-none met size lists g ended free unwiped = (to, from)
   where
     no : (n : ℕ) → suc n ≢ 0
     no n e = omega arith
 
-    to : idleFault links values lists r path .rule ≡ 0 → Idle links values lists r path
+    to : idleFault met size lists g ended free unwiped .rule ≡ 0 → Idle size lists g ended free unwiped
     to h =
-        let (a, h₁) = past (path .ok) _ _ (no 11) h in
-        let (b, h₂) = past (eqb (suc (r .gathered .live + length (path .slots))) (length links)) _ _ (no 12) h₁ in
-        let (c, h₃) = past (eqb (unwipedFrom values (path .slots) nullSlot) nullSlot) _ _ (no 13) h₂ in
-        let (d, h₄) = past (eqb (r .gathered .over) lists) _ _ (no 14) h₃ in
-        let (e, h₅) = past (leb (r .gathered .lacks) (length (path .slots))) _ _ (no 14) h₄ in
-        record { ended = a; all = eqb-true _ _ b; wiped = eqb-true _ _ c; short = eqb-true _ _ d; spare = leb-true _ _ e }
+        let (a, h₁) = past ended _ _ (no 11) h in
+        let (b, h₂) = past (eqb (g .live + free + 1) size) _ _ (no 12) h₁ in
+        let (c, h₃) = past (eqb unwiped nullSlot) _ _ (no 13) h₂ in
+        let (d, h₄) = past (eqb (g .over) lists) _ _ (no 14) h₃ in
+        let (e, h₅) = past (leb (g .lacks) free) _ _ (no 14) h₄ in
+        record { came = a; all = eqb-true _ _ b; clean = eqb-true _ _ c; short = eqb-true _ _ d; spare = leb-true _ _ e }
 
-    from : Idle links values lists r path → idleFault links values lists r path .rule ≡ 0
-    from i = rw (i .ended, eq-eqb _ _ (i .all), eq-eqb _ _ (i .wiped), eq-eqb _ _ (i .short), le-leb _ _ (i .spare))
+    from : Idle size lists g ended free unwiped → idleFault met size lists g ended free unwiped .rule ≡ 0
+    from i = rw (i .came, eq-eqb _ _ (i .all), eq-eqb _ _ (i .clean), eq-eqb _ _ (i .short), le-leb _ _ (i .spare))
 
 module _ (wanted : ℕ) (links values : List ℕ) (es : List Entry) (free : Free) (same : length values ≡ length links) (size : Size (length links)) where
   abbrev lists : ℕ
@@ -74,6 +76,10 @@ module _ (wanted : ℕ) (links values : List ℕ) (es : List Entry) (free : Free
   abbrev path : Path
   path = idlePath links (r .met) free
 
+  -- what the idle stages ask of the idle chain's walk
+  abbrev Asked : Type 0
+  Asked = Idle (length links) lists (r .gathered) (path .ok) (length (path .slots)) (unwipedFrom values (path .slots) nullSlot)
+
   -- a slot of the pool was not met before the first walk
   unseen : (y : ℕ) → y < length links → seen nothingMet y ≡ 0
   unfolding nothingMet
@@ -81,12 +87,13 @@ module _ (wanted : ℕ) (links values : List ℕ) (es : List Entry) (free : Free
 
   -- ---- no fault: the pool is sound
 
-  shape-sound : (cs : List (List ℕ)) → nullSlotZero links values ≡ true → Walked links nothingMet es cs → Sums wanted lists 0 nothingMet es cs (gatheredNone lists) r → Idle links values lists r path
+  shape-sound : (cs : List (List ℕ)) → nullSlotZero links values ≡ true → Walked links nothingMet es cs → Sums wanted lists 0 nothingMet es cs (gatheredNone lists) r → Asked
       → Sound links values es free (record { chains = cs; idle = path .slots })
+  unfolding nullSlotZero
   shape-sound cs z W S I =
       let (z₁, z₂) = and-both (eqb (cell links nullSlot) 0) (eqb (cell values nullSlot) 0) z in
       let F = idle-fresh links (r .met) free in
-      let (hd, ch) = idle-only links (r .met) free (I .ended) in
+      let (hd, ch) = idle-only links (r .met) free (I .came) in
       record {
         sameSize = same;
         size = size;
@@ -98,7 +105,7 @@ module _ (wanted : ℕ) (links values : List ℕ) (es : List Entry) (free : Free
         live = W .live;
         freeHead = hd;
         idle = ch;
-        wiped = unwiped-none values (path .slots) (no-zero) .0 (I .wiped);
+        wiped = unwiped-none values (path .slots) (no-zero) .0 (I .clean);
         nullLink = eqb-true _ _ z₁;
         nullValue = eqb-true _ _ z₂;
         short = S .over refl .0 (I .short);
@@ -156,10 +163,10 @@ module _ (wanted : ℕ) (links values : List ℕ) (es : List Entry) (free : Free
         go y (yes h) e m = let o = S .only y (omega arith) in omega (arith, unseen y (o .1), at-most S y)
         go y (no h) e m = omega (arith, seen-le (r .met) y)
 
-    sound-idle : Idle links values lists r path
+    sound-idle : Asked
     sound-idle =
         record {
-          ended = ap (λ (p : Path). p .ok) sound-path;
+          came = ap (λ (p : Path). p .ok) sound-path;
           all = omega (
             arith,
             sound-sums .live,
@@ -168,7 +175,7 @@ module _ (wanted : ℕ) (links values : List ℕ) (es : List Entry) (free : Free
             size .least,
             once-full (length links - 1) (everySlot s) (λ y p. let o = S .only y p in (o .0, omega arith)) (λ y p q. S .once y p (omega (arith, size .least))),
           );
-          wiped = ap (λ (p : Path). unwipedFrom values (p .slots) nullSlot) sound-path ∙ unwiped-none values (s .idle) (omega (arith, part S 0 0, no-null S)) .1 (S .wiped);
+          clean = ap (λ (p : Path). unwipedFrom values (p .slots) nullSlot) sound-path ∙ unwiped-none values (s .idle) (omega (arith, part S 0 0, no-null S)) .1 (S .wiped);
           short = sound-sums .over refl .1 (S .short);
           spare = omega (arith, sound-sums .lacking, slots-are, S .spare);
         }
@@ -177,12 +184,13 @@ module _ (wanted : ℕ) (links values : List ℕ) (es : List Entry) (free : Free
         slots-are = ap (λ (p : Path). length (p .slots)) sound-path
 
     sound-null : nullSlotZero links values ≡ true
+    unfolding nullSlotZero
     sound-null = both-and _ _ (eq-eqb _ _ (S .nullLink)) (eq-eqb _ _ (S .nullValue))
 
     -- what the check finds on a sound pool
     pub sound-found : poolFound wanted links values es free .fault .rule ≡ 0
     unfolding poolFound
-    sound-found = rw (sound-null, ap (λ f. f .rule) (sound-sums .fault)) (idle-none links values lists r path .1 sound-idle)
+    sound-found = rw (sound-null, ap (λ f. f .rule) (sound-sums .fault)) (idle-none (markAll (r .met) (path .slots)) (length links) lists (r .gathered) (path .ok) (length (path .slots)) (unwipedFrom values (path .slots) nullSlot) .1 sound-idle)
 
     pub sound-length : wanted < length es → poolFound wanted links values es free .length ≡ length (chainAt s wanted)
     unfolding poolFound
@@ -203,10 +211,10 @@ module _ (wanted : ℕ) (links values : List ℕ) (es : List Entry) (free : Free
     where
       go : (a b : Bool) → nullSlotZero links values ≡ a → eqb (r .gathered .fault .rule) 0 ≡ b → poolFound wanted links values es free .fault .rule ≡ 0 → (s : Shape) × Sound links values es free s
       go true true ea eb h =
-          finish ea (gather-told wanted lists links 0 es nothingMet (gatheredNone lists) (omega arith) (seen-le nothingMet) (eqb-true _ _ eb)) (idle-none links values lists r path .0 (rw (ea, eb) at h))
+          finish ea (gather-told wanted lists links 0 es nothingMet (gatheredNone lists) (omega arith) (seen-le nothingMet) (eqb-true _ _ eb)) (idle-none (markAll (r .met) (path .slots)) (length links) lists (r .gathered) (path .ok) (length (path .slots)) (unwipedFrom values (path .slots) nullSlot) .0 (rw (ea, eb) at h))
         where
           finish : nullSlotZero links values ≡ true → (cs : List (List ℕ)) × Walked links nothingMet es cs × Sums wanted lists 0 nothingMet es cs (gatheredNone lists) r
-              → Idle links values lists r path → (s : Shape) × Sound links values es free s
+              → Asked → (s : Shape) × Sound links values es free s
           finish z (cs, W, S) I = (record { chains = cs; idle = path .slots }, shape-sound cs z W S I)
       go true false ea eb h = absurd (eqb-false _ _ eb (rw (ea, eb) at h))
       go false b ea eb h = let k : _≡_ {A = ℕ} 10 0 = rw ea at h in absurd (omega arith)
@@ -214,8 +222,8 @@ module _ (wanted : ℕ) (links values : List ℕ) (es : List Entry) (free : Free
       to : poolFound wanted links values es free .fault .rule ≡ 0 → (s : Shape) × Sound links values es free s
       to h = go (nullSlotZero links values) (eqb (r .gathered .fault .rule) 0) refl refl h
 
--- demand 2: the check accepts exactly the pools that 01 calls sound. Over the book of eight entries, rule 9 first
-pub check-exactly : (wanted : ℕ) (links values : List ℕ) (b : Book) → SizesFit (length links) (length values)
+-- demand 2: the check accepts exactly the pools that 01 calls sound, whatever the book's number of places
+pub check-exactly : (wanted : ℕ) (links values : List ℕ) (b : AnyBook) → SizesFit (length links) (length values)
     → checkFound wanted links values b .fault .rule ≡ 0 ↔ ((s : Shape) × SoundBook links values b s)
 unfolding checkFound
 check-exactly wanted links values b f = (λ h. to (keepsRules (length links) b) refl h, λ (s, S). from s S)

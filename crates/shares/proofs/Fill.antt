@@ -1,24 +1,14 @@
 -- A loop that fills a list from the front, place by place: what holds after k places, and at the end.
-use mathlib.Core.Path.{_≡_, refl, sym, ap, _∙_}
+use mathlib.Core.Path.{_≡_, refl, sym, _∙_}
 use mathlib.Core.List.{List}
-use Prim.Native.Nat.{ℕ, zero, suc, _+_, _≤_, _<_}
-use native.Mathlib.Nat.{le-of-suc-le-suc, not-suc-le-zero}
+use Prim.Native.Nat.{ℕ, _+_, _≤_, _<_}
+use native.Mathlib.Nat.{not-suc-le-zero}
 use native.Mathlib.Decide.{ℕ-discrete}
 use native.Mathlib.Omega.{arith}
 use lib.ListN.{length, getD, set, length-set}
 use lib.Seq.{getD-set-same, getD-set-other, ext-getD}
-use Rattle.shares.specs.Setup.{tabulate}
-
-pub tabulate-length : {A : Type 0} (n : ℕ) (f : ℕ → A) → length (tabulate n f) ≡ n
-unfolding tabulate
-tabulate-length zero f = refl
-tabulate-length (suc n) f = ap suc (tabulate-length n (λ y. f (suc y)))
-
-pub tabulate-at : {A : Type 0} (d : A) (n : ℕ) (f : ℕ → A) (y : ℕ) → y < n → getD (tabulate n f) y d ≡ f y
-unfolding tabulate
-tabulate-at d zero f y h = absurd (not-suc-le-zero h)
-tabulate-at d (suc n) f zero h = refl
-tabulate-at d (suc n) f (suc y) h = tabulate-at d n (λ z. f (suc z)) y (le-of-suc-le-suc h)
+use Rattle.books.specs.Tabulate.{tabulate}
+use Rattle.books.proofs.Tabulate.{tabulate-length, tabulate-at}
 
 pub record Filling {A : Type 0} (d : A) (f : ℕ → A) (before now : List A) (k : ℕ) : Type 0 where
   pub size : length now ≡ length before

@@ -1,7 +1,7 @@
 -- When setup gives each number, and that what it leaves is sound.
 use mathlib.Core.Path.{_≡_, refl, sym, ap, subst, _∙_}
 use mathlib.Core.Logic.{Iff·trans, _↔_, _≢_, _⊎_, inl, inr}
-use mathlib.Core.Bool.{Bool, true, false, cond, not, _&&_}
+use mathlib.Core.Bool.{Bool, true, false, cond, _&&_}
 use mathlib.Core.List.{List, [], _∷_, _++_}
 use Prim.Native.Nat.{ℕ, zero, suc, _+_, _-_, _≤_, _<_}
 use native.Mathlib.Nat.{le-of-suc-le-suc, not-suc-le-zero, eq-zero-or-pos}
@@ -12,12 +12,13 @@ use lib.Seq.{length-take-le, getD-take}
 use lib.Dec.{ltb, eqb}
 use borrow.Author.Tests.{eqb-true, ne-eqb, lt-ltb, le-ltb}
 use Rattle.books.specs.declared.Entry.{Entry}
+use Rattle.books.specs.Tabulate.{tabulate}
+use Rattle.books.proofs.Tabulate.{tabulate-length, tabulate-at}
 use Rattle.books.specs.Outcome.{Outcome}
 use Rattle.books.specs.Test.{keepsRules}
 use Rattle.shares.specs.declared.Answer.{Answer}
-use Rattle.books.specs.Book.{wipeWord, mostLists, zeroEntry, entryAt}
+use Rattle.books.specs.Book.{wipeWord, mostLists, zeroEntry, entryAt, eight}
 use Rattle.books.specs.Rules.{Size, sharesOf, BookRules}
-use Rattle.books.proofs.Tests.{not-both}
 use Rattle.books.proofs.Rules.{keeps-rules}
 use Rattle.chains.specs.Count.{hit, count}
 use Rattle.chains.specs.Chain.{cell, firstOr, lastOr, after}
@@ -27,16 +28,10 @@ use Rattle.shares.specs.Sound.{Shape, joinedUp, everySlot, lacks, Sound,
 use Rattle.shares.specs.Size.{SizesFit, sizesFit}
 use Rattle.shares.specs.Numbers.{firstThat, Given}
 use Rattle.lists.specs.Model.{newOf}
-use Rattle.shares.specs.Setup.{SetupRefused, SetupRules, SetupKeeps, addedUp, slotsFrom, setUp, tabulate, freshLink, freshValue, freshEntry, freshEntries, freshBook, setupTests, setupConditions, setupOf}
+use Rattle.shares.specs.Setup.{SetupRefused, SetupRules, SetupKeeps, addedUp, slotsFrom, setUp, freshLink, freshValue, freshEntry, freshEntries, freshBook, setupTests, setupConditions, setupOf}
 use Rattle.shares.proofs.Size.{sizes-fit}
-use Rattle.shares.proofs.Fill.{tabulate-length, tabulate-at}
-use Rattle.shares.proofs.Numbers.{Matches, given}
+use Rattle.shares.proofs.Numbers.{Matches, given, refuted}
 use Rattle.shares.proofs.Numbers as N
-
--- a test that says no exactly where a condition fails
-pub refuted : (b : Bool) {P : Type 0} → (b ≡ true ↔ P) → (not b ≡ true ↔ (P → ⊥))
-refuted true i = (λ h. not-both true refl (sym h), λ n. absurd (n (i .0 refl)))
-refuted false i = (λ h p. not-both false (i .1 p) refl, λ n. refl)
 
 -- ---- the rules, of what the caller asks for
 
@@ -57,10 +52,10 @@ module _ (size lists : ℕ) (shares limits : List ℕ) where
   entry-is l h = tabulate-at zeroEntry mostLists (freshEntry shares limits) l h
 
   -- the fresh book keeps the book rules exactly where what was asked for does
-  pub fresh-rules : BookRules size (freshBook lists shares limits) ↔ SetupRules size lists shares limits
+  pub fresh-rules : BookRules size (eight (freshBook lists shares limits)) ↔ SetupRules size lists shares limits
   fresh-rules = (to, from)
     where
-      to : BookRules size (freshBook lists shares limits) → SetupRules size lists shares limits
+      to : BookRules size (eight (freshBook lists shares limits)) → SetupRules size lists shares limits
       to R =
           record {
             least = R .least;
@@ -70,11 +65,12 @@ module _ (size lists : ℕ) (shares limits : List ℕ) where
             unused = λ l h b. let e = sym (entry-is l b) ∙ R .unused l h in (ap (λ (d : Entry). d .share) e, ap (λ (d : Entry). d .limit) e);
           }
 
-      from : SetupRules size lists shares limits → BookRules size (freshBook lists shares limits)
+      from : SetupRules size lists shares limits → BookRules size (eight (freshBook lists shares limits))
       from R =
           record {
             least = R .least;
             most = R .most;
+            there = omega (arith, R .most, tabulate-length mostLists (freshEntry shares limits));
             fair = λ l h. rw (entry-is l (omega (arith, R .most))) (R .fair l h);
             fits = rw (fresh-shares lists mostLists shares (λ l. getD limits l 0) (R .most)) (R .fits);
             unused = λ l h. past l h (decLt l mostLists);
@@ -86,7 +82,9 @@ module _ (size lists : ℕ) (shares limits : List ℕ) where
 
 module _ (links values : List ℕ) (lists : ℕ) (shares limits : List ℕ) where
   setup-matches : Matches (setupTests links values lists shares limits) (setupConditions links values lists shares limits)
-  setup-matches = N.one refl (refuted (sizesFit (length links) (length values)) (sizes-fit (length links) (length values))) (N.one refl (refuted _ (Iff·trans (keeps-rules (length links) _) (fresh-rules (length links) lists shares limits))) N.none)
+  setup-matches =
+      N.one refl (refuted (sizesFit (length links) (length values)) (sizes-fit (length links) (length values))) (λ f.
+      N.one refl (refuted _ (Iff·trans (keeps-rules (length links) _) (fresh-rules (length links) lists shares limits))) (λ g. N.none))
 
   setup-number : setupOf links values lists shares limits .answer .refusal .number ≡ firstThat (setupTests links values lists shares limits)
   unfolding setupOf
@@ -177,7 +175,7 @@ fresh-wiped y p = simp (ne-eqb y 0 (λ e. omega arith))
 
 -- ---- setup leaves a sound pool
 
-module _ (size n lists : ℕ) (shares limits : List ℕ) (is : size ≡ suc n) (fits : Size size) (rules : BookRules size (freshBook lists shares limits)) where
+module _ (size n lists : ℕ) (shares limits : List ℕ) (is : size ≡ suc n) (fits : Size size) (rules : BookRules size (eight (freshBook lists shares limits))) where
   -- the lists are empty, and every slot from 1 on is idle, in order
   abbrev pub freshShape : Shape
   freshShape = record { chains = replicate lists []; idle = slotsFrom 1 n }
@@ -229,13 +227,13 @@ module _ (links values : List ℕ) (lists : ℕ) (shares limits : List ℕ) wher
   r = setupOf links values lists shares limits
 
   -- the two ways that setup can go
-  setup-way : ((SizesFit (length links) (length values) × BookRules (length links) (freshBook lists shares limits)) × (r ≡ setUp links values lists shares limits))
+  setup-way : ((SizesFit (length links) (length values) × BookRules (length links) (eight (freshBook lists shares limits))) × (r ≡ setUp links values lists shares limits))
       ⊎ ((r .answer .refusal .number ≢ 0) × SetupRefused links values r)
   unfolding setupOf
-  setup-way = go (sizesFit (length links) (length values)) (keepsRules (length links) (freshBook lists shares limits)) refl refl
+  setup-way = go (sizesFit (length links) (length values)) (keepsRules (length links) (eight (freshBook lists shares limits))) refl refl
     where
-      go : (a b : Bool) → sizesFit (length links) (length values) ≡ a → keepsRules (length links) (freshBook lists shares limits) ≡ b
-          → ((SizesFit (length links) (length values) × BookRules (length links) (freshBook lists shares limits)) × (r ≡ setUp links values lists shares limits))
+      go : (a b : Bool) → sizesFit (length links) (length values) ≡ a → keepsRules (length links) (eight (freshBook lists shares limits)) ≡ b
+          → ((SizesFit (length links) (length values) × BookRules (length links) (eight (freshBook lists shares limits))) × (r ≡ setUp links values lists shares limits))
           ⊎ ((r .answer .refusal .number ≢ 0) × SetupRefused links values r)
       go true true ea eb = inl ((sizes-fit (length links) (length values) .0 ea, keeps-rules (length links) _ .0 eb), rw (ea, eb))
       go true false ea eb = inr (rw (ea, eb) (λ e. omega arith, record { zeroed = refl; sameLinks = refl; sameValues = refl }))
@@ -245,18 +243,18 @@ module _ (links values : List ℕ) (lists : ℕ) (shares limits : List ℕ) wher
   pub setup-refused : r .answer .refusal .number ≢ 0 → SetupRefused links values r
   setup-refused d = go setup-way
     where
-      go : ((SizesFit (length links) (length values) × BookRules (length links) (freshBook lists shares limits)) × (r ≡ setUp links values lists shares limits))
+      go : ((SizesFit (length links) (length values) × BookRules (length links) (eight (freshBook lists shares limits))) × (r ≡ setUp links values lists shares limits))
           ⊎ ((r .answer .refusal .number ≢ 0) × SetupRefused links values r) → SetupRefused links values r
       go (inl w) = absurd (d (ap (λ (o : Outcome Answer). o .answer .refusal .number) (w .1)))
       go (inr w) = w .1
 
   -- what a done setup leaves is sound: the lists are empty, and every slot from 1 on is idle, in order
-  pub setup-sound : r .answer .refusal .number ≡ 0 → SoundBook (r .links) (r .values) (r .answer .book) (record { chains = replicate lists []; idle = slotsFrom 1 (length links - 1) })
+  pub setup-sound : r .answer .refusal .number ≡ 0 → SoundBook (r .links) (r .values) (eight (r .answer .book)) (record { chains = replicate lists []; idle = slotsFrom 1 (length links - 1) })
   setup-sound z = go setup-way
     where
-      go : ((SizesFit (length links) (length values) × BookRules (length links) (freshBook lists shares limits)) × (r ≡ setUp links values lists shares limits))
+      go : ((SizesFit (length links) (length values) × BookRules (length links) (eight (freshBook lists shares limits))) × (r ≡ setUp links values lists shares limits))
           ⊎ ((r .answer .refusal .number ≢ 0) × SetupRefused links values r)
-          → SoundBook (r .links) (r .values) (r .answer .book) (record { chains = replicate lists []; idle = slotsFrom 1 (length links - 1) })
+          → SoundBook (r .links) (r .values) (eight (r .answer .book)) (record { chains = replicate lists []; idle = slotsFrom 1 (length links - 1) })
       go (inr w) = absurd (w .0 z)
       go (inl ((f, b), e)) =
           rw e
@@ -271,7 +269,7 @@ module _ (links values : List ℕ) (lists : ℕ) (shares limits : List ℕ) wher
   pub setup-keeps : r .answer .refusal .number ≡ 0 → SetupKeeps lists shares limits r
   setup-keeps z = go setup-way
     where
-      go : ((SizesFit (length links) (length values) × BookRules (length links) (freshBook lists shares limits)) × (r ≡ setUp links values lists shares limits))
+      go : ((SizesFit (length links) (length values) × BookRules (length links) (eight (freshBook lists shares limits))) × (r ≡ setUp links values lists shares limits))
           ⊎ ((r .answer .refusal .number ≢ 0) × SetupRefused links values r) → SetupKeeps lists shares limits r
       go (inr w) = absurd (w .0 z)
       go (inl w) =

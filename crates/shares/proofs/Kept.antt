@@ -16,12 +16,8 @@ use Rattle.chains.specs.Chain.{cell, firstOr, lastOr, LiveChain}
 use Rattle.chains.proofs.Count.{count-append}
 use Rattle.chains.proofs.Chain.{linked-frame}
 use Rattle.lists.specs.Meaning.{Held}
-use Rattle.shares.specs.Sound.{Shape, chainAt, joinedUp, everySlot, lacks, Sound}
+use Rattle.shares.specs.Sound.{Shape, chainAt, put, joinedUp, everySlot, lacks, Sound}
 use Rattle.shares.proofs.Shape.{joined-set, lacks-set, at-most, no-null, part, two-parts}
-
--- list l becomes xs, and fs is idle
-abbrev pub put : Shape → ℕ → List ℕ → List ℕ → Shape
-put s l xs fs = record { chains = set (s .chains) l xs; idle = fs }
 
 -- each list of a sound pool is held by the cells
 pub sound-held : {links values : List ℕ} {es : List Entry} {free : Free} {s : Shape} → Sound links values es free s → (l : ℕ) → l < length es

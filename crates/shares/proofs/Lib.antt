@@ -2,9 +2,15 @@
 pub mod Shape
 pub mod Kept
 pub mod Steps
+pub mod Effects
 pub mod Fill
 pub mod Size
 pub mod Numbers
 pub mod Fresh
 pub mod Gather
 pub mod Checked
+pub mod Stages
+pub mod Found
+pub mod Reached
+pub mod When
+pub mod Outcomes

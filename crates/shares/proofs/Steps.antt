@@ -28,9 +28,9 @@ use Rattle.lists.specs.declared.clear.Cleared.{Cleared}
 use Rattle.lists.specs.Clear.{clearOn, Empties}
 use Rattle.lists.proofs.Ends.{push-held, pop-held}
 use Rattle.lists.proofs.Clearing.{clear-held}
-use Rattle.shares.specs.Sound.{Shape, chainAt, lacks, Sound, Room}
+use Rattle.shares.specs.Sound.{Shape, chainAt, put, lacks, Sound, Room}
 use Rattle.shares.proofs.Shape.{lacks-part, no-null, part}
-use Rattle.shares.proofs.Kept.{put, sound-held, sound-put}
+use Rattle.shares.proofs.Kept.{sound-held, sound-put}
 
 -- ---- a slot at an end
 

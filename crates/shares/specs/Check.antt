@@ -6,15 +6,17 @@ use lib.Dec.{ltb, leb, eqb}
 use lib.ListN.{length, take, replicate}
 use Rattle.books.specs.declared.Free.{Free}
 use Rattle.books.specs.declared.Entry.{Entry}
-use Rattle.books.specs.declared.Book.{Book}
-use Rattle.books.specs.Book.{nullSlot, largestPool}
+use Rattle.books.specs.Book.{nullSlot, largestPool, AnyBook}
 use Rattle.books.specs.Test.{keepsRules}
 use Rattle.chains.specs.Chain.{cell, lastOr}
 use Rattle.slots.specs.Met.{isMetOf, markAll}
 use Rattle.slots.specs.Walk.{Path, unwipedFrom, idlePath}
 use Rattle.lists.specs.Walk.{livePath}
+use Rattle.shares.specs.Size.{sizesFit}
 use Rattle.shares.specs.declared.check.Fault.{Fault}
 use Rattle.shares.specs.declared.check.Gathered.{Gathered}
+use Rattle.shares.specs.declared.check.Found.{Found}
+use Rattle.shares.specs.declared.check.Looked.{Looked}
 
 abbrev pub fault : ℕ → ℕ → ℕ → Fault
 fault rule list place = record { rule = rule; list = list; place = place }
@@ -72,47 +74,67 @@ abbrev pub lowestUnmet : List ℕ → ℕ → ℕ → ℕ
 lowestUnmet met slot zero = slot
 lowestUnmet met slot (suc n) = cond (isMetOf met slot) (lowestUnmet met (suc slot) n) slot
 
--- rules 12 to 15, once every list was walked: `path` is the idle chain
-abbrev pub idleFault : List ℕ → List ℕ → ℕ → Round → Path → Fault
-idleFault links values lists r path =
-    let free = length (path .slots) in
-    let unwiped = unwipedFrom values (path .slots) nullSlot in
-    cond (path .ok)
-    (cond (eqb (suc (r .gathered .live + free)) (length links))
+-- rule 15: the lowest list over its limit, or else L where the free slots do not cover what the lists lack
+unfoldable pub spareFault : ℕ → ℕ → ℕ → ℕ → Fault
+spareFault lists over lacks free = cond (eqb over lists) (cond (leb lacks free) noFault (fault 15 lists 0)) (fault 15 over 0)
+
+-- rules 12 to 15, once the idle chain was walked too: `met` are the slots met on all walks, `ended` whether the idle walk came to its end,
+-- `free` how many slots it passed, and `unwiped` the lowest of them with a value
+unfoldable pub idleFault : List ℕ → ℕ → ℕ → Gathered → Bool → ℕ → ℕ → Fault
+idleFault met size lists g ended free unwiped =
+    cond ended
+    (cond (eqb (g .live + free + 1) size)
     (cond (eqb unwiped nullSlot)
-    (cond (eqb (r .gathered .over) lists)
-    (cond (leb (r .gathered .lacks) free) noFault (fault 15 lists 0))
-    (fault 15 (r .gathered .over) 0))
+    (spareFault lists (g .over) (g .lacks) free)
     (fault 14 0 unwiped))
-    (fault 13 0 (lowestUnmet (markAll (r .met) (path .slots)) 1 (length links - 1))))
+    (fault 13 0 (lowestUnmet met 1 (size - 1))))
     (fault 12 0 free)
 
--- what the check finds
-pub record Found : Type 0 where
-  pub fault : Fault
-  pub length : ℕ
-  pub lacks : ℕ
-  pub free : ℕ
+-- a fault, and nothing else was found
+abbrev pub faulty : Fault → Found
+faulty f = record { fault = f; length = 0; lacks = 0; free = 0 }
 
 -- rule 10: slot 0 has link 0 and value 0
-abbrev pub nullSlotZero : List ℕ → List ℕ → Bool
+unfoldable pub nullSlotZero : List ℕ → List ℕ → Bool
 nullSlotZero links values = eqb (cell links nullSlot) 0 && eqb (cell values nullSlot) 0
+
+-- what the check finds once every list was walked: the length of the list that is asked for, what the lists lack of their shares,
+-- and the free slots, which mean something where there is no fault
+abbrev pub idleFound : List ℕ → List ℕ → ℕ → Round → Path → Found
+idleFound links values lists r path =
+    record {
+      fault = idleFault (markAll (r .met) (path .slots)) (length links) lists (r .gathered) (path .ok) (length (path .slots)) (unwipedFrom values (path .slots) nullSlot);
+      length = r .gathered .length;
+      lacks = r .gathered .lacks;
+      free = length (path .slots);
+    }
 
 -- the pool over the entries of its L lists: rules 10 to 15
 unfoldable pub poolFound : ℕ → List ℕ → List ℕ → List Entry → Free → Found
 poolFound wanted links values es free =
     let lists = length es in
     let r = gatherAll wanted lists links 0 es nothingMet (gatheredNone lists) in
-    let path = idlePath links (r .met) free in
     cond (nullSlotZero links values)
     (cond (eqb (r .gathered .fault .rule) 0)
-    (record { fault = idleFault links values lists r path; length = r .gathered .length; lacks = r .gathered .lacks; free = length (path .slots) })
-    (record { fault = r .gathered .fault; length = 0; lacks = 0; free = 0 }))
-    (record { fault = fault 10 0 0; length = 0; lacks = 0; free = 0 })
+    (idleFound links values lists r (idlePath links (r .met) free))
+    (faulty (r .gathered .fault)))
+    (faulty (fault 10 0 0))
 
--- the whole check, rule 9 first. Its length, lacks and free slots mean something where it finds no fault alone
-unfoldable pub checkFound : ℕ → List ℕ → List ℕ → Book → Found
+-- the whole check, rule 9 first
+unfoldable pub checkFound : ℕ → List ℕ → List ℕ → AnyBook → Found
 checkFound wanted links values b =
     cond (keepsRules (length links) b)
     (poolFound wanted links values (take (b .lists) (b .entries)) (b .free))
-    (record { fault = fault 9 0 0; length = 0; lacks = 0; free = 0 })
+    (faulty (fault 9 0 0))
+
+-- a refusal before or by the check: nothing was found
+abbrev pub refusedBy : ℕ → Looked
+refusedBy number = record { refusal = record { number = number }; found = faulty noFault }
+
+-- 1 or 3, with nothing found, or else 0 and what the check found
+unfoldable pub lookOf : ℕ → List ℕ → List ℕ → AnyBook → Looked
+lookOf wanted links values b =
+    let found = checkFound wanted links values b in
+    cond (sizesFit (length links) (length values))
+    (cond (eqb (found .fault .rule) 0) (record { refusal = record { number = 0 }; found = found }) (refusedBy 3))
+    (refusedBy 1)

@@ -4,3 +4,5 @@ pub mod Size
 pub mod Numbers
 pub mod Setup
 pub mod Check
+pub mod Calls
+pub mod Done

@@ -7,18 +7,14 @@ use lib.Dec.{ltb, eqb}
 use lib.ListN.{length, getD, take}
 use Rattle.books.specs.declared.Entry.{Entry}
 use Rattle.books.specs.declared.Book.{Book}
-use Rattle.books.specs.Book.{nullSlot, wipeWord, mostLists, zeroBook, entryAt}
+use Rattle.books.specs.Book.{nullSlot, wipeWord, mostLists, zeroBook, entryAt, eight}
 use Rattle.books.specs.Test.{keepsRules}
+use Rattle.books.specs.Tabulate.{tabulate}
 use Rattle.books.specs.Outcome.{Outcome, outcome}
 use Rattle.lists.specs.Model.{newOf}
 use Rattle.shares.specs.declared.Answer.{Answer}
 use Rattle.shares.specs.Size.{SizesFit, sizesFit}
 use Rattle.shares.specs.Numbers.{Test, test, firstThat, Condition, condition}
-
--- f 0, f 1, and so on, n of them
-unfoldable pub tabulate : {A : Type 0} → ℕ → (ℕ → A) → List A
-tabulate zero f = []
-tabulate (suc n) f = f zero ∷ tabulate n (λ y. f (suc y))
 
 -- 01: "links 1 to 2, 2 to 3, and so on, the last 0"
 unfoldable pub freshLink : ℕ → ℕ → ℕ
@@ -77,7 +73,7 @@ pub record SetupRefused (links values : List ℕ) (r : Outcome Answer) : Type 0 
 module _ (links values : List ℕ) (lists : ℕ) (shares limits : List ℕ) where
   -- 1: the sizes; 2: "setup's L, shares or limits break the book rules"
   abbrev pub setupTests : List Test
-  setupTests = test 1 (not (sizesFit (length links) (length values))) ∷ test 2 (not (keepsRules (length links) (freshBook lists shares limits))) ∷ []
+  setupTests = test 1 (not (sizesFit (length links) (length values))) ∷ test 2 (not (keepsRules (length links) (eight (freshBook lists shares limits)))) ∷ []
 
   abbrev pub setupConditions : List Condition
   setupConditions = condition 1 (SizesFit (length links) (length values) → ⊥) ∷ condition 2 (SetupRules (length links) lists shares limits → ⊥) ∷ []

@@ -3,11 +3,10 @@ use mathlib.Core.Path.{_≡_}
 use mathlib.Core.Logic.{_⊎_}
 use mathlib.Core.List.{List, [], _∷_, _++_}
 use Prim.Native.Nat.{ℕ, _+_, _-_, _≤_, _<_}
-use lib.ListN.{length, getD, take}
+use lib.ListN.{length, getD, set, take}
 use Rattle.books.specs.declared.Free.{Free}
 use Rattle.books.specs.declared.Entry.{Entry}
-use Rattle.books.specs.declared.Book.{Book}
-use Rattle.books.specs.Book.{nullSlot, wipeWord, entryAt}
+use Rattle.books.specs.Book.{nullSlot, wipeWord, entryAt, AnyBook}
 use Rattle.books.specs.Rules.{Size, BookRules}
 use Rattle.chains.specs.Count.{count}
 use Rattle.chains.specs.Chain.{cell, firstOr, lastOr, LiveChain, IdleChain}
@@ -20,6 +19,10 @@ pub record Shape : Type 0 where
 -- list l's sequence
 abbrev pub chainAt : Shape → ℕ → List ℕ
 chainAt s l = getD (s .chains) l []
+
+-- list l becomes xs, and fs is idle
+abbrev pub put : Shape → ℕ → List ℕ → List ℕ → Shape
+put s l xs fs = record { chains = set (s .chains) l xs; idle = fs }
 
 -- the sequences one after the other
 abbrev pub joinedUp : List (List ℕ) → List ℕ
@@ -65,7 +68,7 @@ pub record Sound (links values : List ℕ) (es : List Entry) (free : Free) (s : 
   pub spare : lacks es (s .chains) ≤ length (s .idle)
 
 -- 01's book: the rules on L, shares and limits, and the pool sound over the first L entries
-pub record SoundBook (links values : List ℕ) (b : Book) (s : Shape) : Type 0 where
+pub record SoundBook (links values : List ℕ) (b : AnyBook) (s : Shape) : Type 0 where
   pub rules : BookRules (length links) b
   pub pool : Sound links values (take (b .lists) (b .entries)) (b .free) s
 

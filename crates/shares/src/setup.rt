@@ -7,9 +7,10 @@ use books::Refusal;
 ghost use mathlib.Core.Path.{_≡_};
 ghost use Prim.Native.Nat.{_≤_, _<_};
 ghost use lib.ListN.{length};
+ghost use Rattle.books.specs.Tabulate.{tabulate};
 ghost use Rattle.books.specs.Outcome.{outcome};
 ghost use Rattle.shares.specs.Size.{sizesFit};
-ghost use Rattle.shares.specs.Setup.{tabulate, freshLink, freshValue, freshBook, freshEntries, answered, setupOf};
+ghost use Rattle.shares.specs.Setup.{freshLink, freshValue, freshBook, freshEntries, answered, setupOf};
 ghost use Rattle.books.specs.Book.{zeroBook};
 
 // Refused by 1 where the slices differ in length or the size does not fit, by 2 where L, shares or limits break the book rules;

@@ -1,6 +1,8 @@
 -- `books::Book::keeps_rules`: each answer follows from the tests on the way and from what the two loops promise.
+use mathlib.Core.Path.{sym, _∙_}
 use Prim.Native.Nat.{_≤_}
 use native.Mathlib.Omega.{arith}
+use lib.ListN.{length, length-map}
 use borrow.Author.Needs.{needs}
 use borrow.Author.Tests.{le-leb, lt-leb, not-true, not-false}
 use Rattle.books.specs.Test.{keepsRules}
@@ -17,6 +19,9 @@ one c = omega arith
 eight : (c : tie.Else2) → start c .args .self .lists ≤ 8
 eight c = omega arith
 
+has : (c : tie.Else2) → start c .args .self .lists ≤ length (start c .args .self .entries)
+has c = omega (arith, sym (length-map (start c .args .self .entries) _) ∙ start c .good .0 .1 .1 .1 .0 .1 .0 .1)
+
 returns : tie.Need-returns
 unfolding keepsRules
 returns c = simp (c .if1 .taken)
@@ -28,7 +33,7 @@ returns-2 c = simp (le-leb 1 (c .before .before .before .args .self .lists) (ome
 returns-3 : tie.Need-returns-3
 unfolding keepsRules
 returns-3 c =
-    simp (le-leb _ _ (one (c .before .before)), le-leb _ _ (eight (c .before .before)), ← c .before .shares-fit .ensures, not-true (c .before .shares-fit .result) (c .if3 .taken))
+    simp (le-leb _ _ (one (c .before .before)), le-leb _ _ (eight (c .before .before)), le-leb _ _ (has (c .before .before)), ← c .before .shares-fit .ensures, not-true (c .before .shares-fit .result) (c .if3 .taken))
 
 returns-4 : tie.Need-returns-4
 unfolding keepsRules
@@ -36,6 +41,7 @@ returns-4 c =
     simp (
       le-leb _ _ (one (c .before .before .before)),
       le-leb _ _ (eight (c .before .before .before)),
+      le-leb _ _ (has (c .before .before .before)),
       ← c .before .before .shares-fit .ensures,
       not-false (c .before .before .shares-fit .result) (c .before .if3 .left),
       c .rest-zero .ensures,

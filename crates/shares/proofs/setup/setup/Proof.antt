@@ -1,11 +1,14 @@
 -- `shares::setup::setup`: what it answers and stores follows from the two tests and from what the fills promise.
-use mathlib.Core.Path.{sym, _∙_}
+use mathlib.Core.Path.{_≡_, sym, ap, _∙_}
 use lib.ListN.{length}
 use denote.Ref.{now}
 use borrow.Author.Needs.{needs}
 use borrow.Author.Tests.{not-true, not-false}
 use Rattle.shares.specs.Size.{SizesFit}
-use Rattle.shares.specs.Setup.{setupOf}
+use Rattle.books.specs.declared.Book.{Book}
+use Rattle.books.specs.Book.{eight}
+use Rattle.books.specs.Test.{keepsRules}
+use Rattle.shares.specs.Setup.{freshBook, setupOf}
 use Rattle.shares.proofs.Size.{sizes-fit}
 use Rattle.shares.proofs.setup.setup.Statement.{statement}
 use Rattle.shares.proofs.setup.setup.Tie as tie
@@ -13,6 +16,11 @@ use Rattle.shares.proofs.setup.setup.Tie as tie
 -- past the first test the sizes fit
 fits : (c : tie.Else1) → SizesFit (length (now (c .before .before .before .before .args .links))) (length (now (c .before .before .before .before .args .values)))
 fits c = sizes-fit _ _ .0 (sym (c .before .sizes-fit .ensures) ∙ not-false (c .before .sizes-fit .result) (c .if1 .left))
+
+-- the test of the rules is the model's own
+kept : (c : tie.After-keeps-rules)
+    → c .keeps-rules .result ≡ keepsRules (length (now (c .before .before .before .before .before .before .args .links))) (eight (freshBook (c .before .before .before .before .before .before .args .lists) (c .before .before .before .before .before .before .args .shares) (c .before .before .before .before .before .before .args .limits)))
+kept c = c .keeps-rules .ensures ∙ ap (λ (b : Book). keepsRules (length (now (c .before .before .before .before .before .before .args .links))) (eight b)) (c .before .fresh-book .ensures)
 
 returns : tie.Need-returns
 unfolding setupOf
@@ -25,8 +33,8 @@ returns-2 c =
       c .refused2 .ensures,
       ← c .before .before .before .before .before .sizes-fit .ensures,
       not-false (c .before .before .before .before .before .sizes-fit .result) (c .before .before .before .before .if1 .left),
-      ← c .before .before .before .fresh-book .ensures,
-      ← c .before .before .keeps-rules .ensures,
+      ← kept (c .before .before),
+      c .before .before .before .fresh-book .ensures,
       not-true (c .before .before .keeps-rules .result) (c .before .if2 .taken),
     )
 
@@ -38,8 +46,8 @@ returns-3 c =
       c .before .before .before .before .before .before .fresh-links .ensures,
       ← c .before .before .before .before .before .before .before .before .before .before .before .before .sizes-fit .ensures,
       not-false (c .before .before .before .before .before .before .before .before .before .before .before .before .sizes-fit .result) (c .before .before .before .before .before .before .before .before .before .before .before .if1 .left),
-      ← c .before .before .before .before .before .before .before .before .before .before .fresh-book .ensures,
-      ← c .before .before .before .before .before .before .before .before .before .keeps-rules .ensures,
+      ← kept (c .before .before .before .before .before .before .before .before .before),
+      c .before .before .before .before .before .before .before .before .before .before .fresh-book .ensures,
       not-false (c .before .before .before .before .before .before .before .before .before .keeps-rules .result) (c .before .before .before .before .before .before .before .before .if2 .left),
     )
 

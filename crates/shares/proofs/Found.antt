@@ -1,0 +1,139 @@
+-- What the check found, said of the sound shape; and what a call on a list knows once 1, 3 and 4 do not apply.
+use mathlib.Core.Path.{_≡_, refl, sym, ap, _∙_}
+use mathlib.Core.Logic.{_≢_}
+use mathlib.Core.Bool.{Bool, true, false}
+use mathlib.Core.List.{List, _++_}
+use Prim.Native.Nat.{ℕ, suc, _-_, _≤_, _<_}
+use native.Mathlib.Omega.{arith}
+use lib.Dec.{leb, eqb}
+use lib.ListN.{length, take}
+use borrow.Author.Tests.{eqb-true, eq-eqb, leb-true, leb-false, lt-leb}
+use Rattle.books.specs.declared.Entry.{Entry}
+use Rattle.books.specs.Book.{entryAt, AnyBook}
+use Rattle.books.proofs.Rules.{keeps-rules}
+use Rattle.lists.specs.declared.End.{End}
+use Rattle.lists.specs.Model.{nearOf}
+use Rattle.lists.specs.Read.{countRead}
+use Rattle.shares.specs.Sound.{Shape, chainAt, lacks, SoundBook}
+use Rattle.shares.specs.Size.{SizesFit, sizesFit}
+use Rattle.shares.specs.Numbers.{Test, firstThat}
+use Rattle.shares.specs.Check.{poolFound, checkFound, lookOf}
+use Rattle.shares.specs.Calls.{decided, placeTests, listTests, onListOf}
+use Rattle.shares.proofs.Size.{sizes-fit}
+use Rattle.shares.proofs.Numbers.{Numbered, nil, cons, first-first, first-then, decided-refused, decided-done}
+use Rattle.shares.proofs.Effects.{listed, entry-is, reads}
+use Rattle.shares.proofs.Checked.{sound-length, sound-lacks, sound-free, check-exactly}
+
+-- ---- on a sound pool
+
+module _ {links values : List ℕ} {b : AnyBook} {s : Shape} (S : SoundBook links values b s) where
+  pub sound-sizes : SizesFit (length links) (length values)
+  sound-sizes = record { same = sym (S .pool .sameSize); size = S .pool .size }
+
+  kept : (wanted : ℕ) → checkFound wanted links values b ≡ poolFound wanted links values (take (b .lists) (b .entries)) (b .free)
+  unfolding checkFound
+  kept wanted = rw (keeps-rules (length links) b .1 (S .rules))
+
+  pub found-lacks : (wanted : ℕ) → checkFound wanted links values b .lacks ≡ lacks (take (b .lists) (b .entries)) (s .chains)
+  found-lacks wanted = rw (kept wanted) (sound-lacks wanted links values _ (b .free) (S .pool .sameSize) (S .pool .size) s (S .pool))
+
+  pub found-free : (wanted : ℕ) → checkFound wanted links values b .free ≡ length (s .idle)
+  found-free wanted = rw (kept wanted) (sound-free wanted links values _ (b .free) (S .pool .sameSize) (S .pool .size) s (S .pool))
+
+  module _ (l : ℕ) (below : l < b .lists) where
+    pub found-length : checkFound l links values b .length ≡ length (chainAt s l)
+    found-length = rw (kept l) (sound-length l links values _ (b .free) (S .pool .sameSize) (S .pool .size) s (S .pool) (listed S l below))
+
+    pub within : length (chainAt s l) ≤ entryAt (b .entries) l .limit
+    within = rw (ap (λ (e : Entry). e .limit) (entry-is S l below)) at (S .pool .short l (listed S l below))
+
+    pub shorter : length (chainAt s l) < 4096
+    shorter = omega (arith, within, S .rules .fair l below .1, S .pool .size .most)
+
+-- ---- once 1, 3 and 4 do not apply
+
+-- where 8 does not apply there is room
+pub placed : (many room at : ℕ) → firstThat (placeTests many room at) ≡ 0 → (at ≤ room) × (many ≤ room - at)
+placed many room at z = go (leb at room) (leb many (room - at)) refl refl
+  where
+    go : (x y : Bool) → leb at room ≡ x → leb many (room - at) ≡ y → (at ≤ room) × (many ≤ room - at)
+    go true true ex ey = (leb-true _ _ ex, leb-true _ _ ey)
+    go true false ex ey = let k : _≡_ {A = ℕ} 8 0 = rw (ex, ey) at z in absurd (omega arith)
+    go false y ex ey = let k : _≡_ {A = ℕ} 8 0 = rw ex at z in absurd (omega arith)
+
+module _ (links values : List ℕ) (b : AnyBook) (l : ℕ) where
+  pub on-list-number : onListOf links values b l .refusal .number ≡ firstThat (listTests links values b l)
+  unfolding onListOf lookOf
+  on-list-number = go (sizesFit (length links) (length values)) (eqb (checkFound l links values b .fault .rule) 0) (leb (b .lists) l) refl refl refl
+    where
+      go : (x y z : Bool) → sizesFit (length links) (length values) ≡ x → eqb (checkFound l links values b .fault .rule) 0 ≡ y → leb (b .lists) l ≡ z → onListOf links values b l .refusal .number ≡ firstThat (listTests links values b l)
+      go true true true ex ey ez = rw (ex, ey, ez)
+      go true true false ex ey ez = rw (ex, ey, ez)
+      go true false z ex ey ez = rw (ex, ey)
+      go false y z ex ey ez = rw ex
+
+  pub on-list-passed : onListOf links values b l .refusal .number ≡ 0 → SizesFit (length links) (length values) × (checkFound l links values b .fault .rule ≡ 0) × (l < b .lists)
+  unfolding onListOf lookOf
+  on-list-passed n = go (sizesFit (length links) (length values)) (eqb (checkFound l links values b .fault .rule) 0) (leb (b .lists) l) refl refl refl
+    where
+      no : (k : ℕ) → onListOf links values b l .refusal .number ≡ k → 0 < k → ⊥
+      no k e p = omega (arith, n)
+
+      go : (x y z : Bool) → sizesFit (length links) (length values) ≡ x → eqb (checkFound l links values b .fault .rule) 0 ≡ y → leb (b .lists) l ≡ z → SizesFit (length links) (length values) × (checkFound l links values b .fault .rule ≡ 0) × (l < b .lists)
+      go true true true ex ey ez = absurd (no 4 (rw (ex, ey, ez)) (omega arith))
+      go true true false ex ey ez = (sizes-fit (length links) (length values) .0 ex, eqb-true _ _ ey, leb-false _ _ ez)
+      go true false z ex ey ez = absurd (no 3 (rw (ex, ey)) (omega arith))
+      go false y z ex ey ez = absurd (no 1 (rw ex) (omega arith))
+
+  pub on-list-found : onListOf links values b l .refusal .number ≡ 0 → onListOf links values b l .found ≡ checkFound l links values b
+  unfolding onListOf lookOf
+  on-list-found n = go (on-list-passed n)
+    where
+      go : SizesFit (length links) (length values) × (checkFound l links values b .fault .rule ≡ 0) × (l < b .lists) → onListOf links values b l .found ≡ checkFound l links values b
+      go (f, z, below) = rw (sizes-fit (length links) (length values) .1 f, eq-eqb (checkFound l links values b .fault .rule) 0 z, lt-leb (b .lists) l below)
+
+  -- then there is a sound shape, with the list in it
+  pub on-list-sound : onListOf links values b l .refusal .number ≡ 0 → (s : Shape) × SoundBook links values b s × (l < b .lists)
+  on-list-sound n =
+      let (f, z, below) = on-list-passed n in
+      let (s, S) = check-exactly l links values b f .0 z in
+      (s, S, below)
+
+  pub on-list-below : onListOf links values b l .refusal .number ≡ 0 → (l < b .places) × (l < length (b .entries))
+  on-list-below n = let (s, S, below) = on-list-sound n in (omega (arith, S .rules .most), omega (arith, S .rules .there))
+
+  pub on-list-length : onListOf links values b l .refusal .number ≡ 0 → checkFound l links values b .length < 4096
+  on-list-length n = let (s, S, below) = on-list-sound n in omega (arith, found-length S l below, shorter S l below)
+
+  -- a read that is not refused counts fewer than 4,096 values
+  pub read-count : (end : End) (buffer : List ℕ) (at : ℕ) → onListOf links values b l .refusal .number ≡ 0 → firstThat (placeTests (checkFound l links values b .length) (length buffer) at) ≡ 0
+      → countRead links values (nearOf end (entryAt (b .entries) l)) buffer at < 4096
+  read-count end buffer at n z =
+      let (s, S, below) = on-list-sound n in
+      let (p, q) = placed (checkFound l links values b .length) (length buffer) at z in
+      omega (arith, reads S l below end buffer at (omega (arith, found-length S l below)) .counted, shorter S l below)
+
+  -- ---- what the call then gives
+
+  suc-ne-zero : (n : ℕ) → suc n ≢ 0
+  suc-ne-zero n e = omega arith
+
+  pub list-numbered : Numbered (listTests links values b l)
+  list-numbered = cons (suc-ne-zero 0) (cons (suc-ne-zero 2) (cons (suc-ne-zero 3) nil))
+
+  module _ {A : Type 0} (us : List Test) (done : A) (refused : ℕ → A) where
+    -- 1, 3 or 4 decides
+    pub by-list : onListOf links values b l .refusal .number ≢ 0 → decided (listTests links values b l ++ us) done refused ≡ refused (onListOf links values b l .refusal .number)
+    by-list d =
+        let e : firstThat (listTests links values b l ++ us) ≡ onListOf links values b l .refusal .number = first-first (listTests links values b l) us (λ k. d (on-list-number ∙ k)) ∙ sym on-list-number in
+        decided-refused done refused (listTests links values b l ++ us) (λ k. d (sym e ∙ k)) ∙ ap refused e
+
+    -- a test of the call's own decides
+    pub by-call : onListOf links values b l .refusal .number ≡ 0 → firstThat us ≢ 0 → decided (listTests links values b l ++ us) done refused ≡ refused (firstThat us)
+    by-call n d =
+        let e : firstThat (listTests links values b l ++ us) ≡ firstThat us = first-then us list-numbered (sym on-list-number ∙ n) in
+        decided-refused done refused (listTests links values b l ++ us) (λ k. d (sym e ∙ k)) ∙ ap refused e
+
+    -- none applies
+    pub goes : onListOf links values b l .refusal .number ≡ 0 → firstThat us ≡ 0 → decided (listTests links values b l ++ us) done refused ≡ done
+    goes n z = decided-done done refused (listTests links values b l ++ us) (first-then us list-numbered (sym on-list-number ∙ n) ∙ z)

@@ -1,0 +1,156 @@
+-- When each number is given: for each of the nine calls, the number is the first whose condition in 01 holds, said of the sound shape.
+use mathlib.Core.Path.{_≡_, refl, sym, ap, subst, _∙_}
+use mathlib.Core.Logic.{_↔_, _⊎_, inl, inr}
+use mathlib.Core.Bool.{Bool, true, false, not, _&&_}
+use mathlib.Core.List.{List, [], _∷_, _++_}
+use Prim.Native.Nat.{ℕ, _+_, _-_, _≤_, _<_}
+use native.Mathlib.Omega.{arith}
+use lib.Dec.{leb, ltb, eqb}
+use lib.ListN.{length, take}
+use borrow.Author.Tests.{eqb-true, eq-eqb, leb-true, leb-false, le-leb, lt-leb, ltb-true, lt-ltb}
+use Rattle.books.specs.declared.Entry.{Entry}
+use Rattle.books.specs.Book.{AnyBook}
+use Rattle.books.specs.Outcome.{Outcome}
+use Rattle.books.proofs.Tests.{and-both, both-and, not-both}
+use Rattle.lists.specs.declared.End.{End}
+use Rattle.shares.specs.Sound.{Shape, chainAt, lacks, SoundBook}
+use Rattle.shares.specs.Size.{SizesFit, sizesFit}
+use Rattle.shares.specs.Numbers.{Test, test, firstThat, Condition, condition, Given}
+use Rattle.shares.specs.Check.{checkFound}
+use Rattle.shares.specs.declared.Length.{Length}
+use Rattle.shares.specs.Calls.{Called, ReadLeft, OfShape, checkTests, checkConditions, foundOf, entryOf, listTests, listConditions, pushTests, pushConditions, popTests, popConditions, readTests, readConditions, checkCall, lengthCall, pushCall, popCall, clearCall, readCall}
+use Rattle.shares.proofs.Size.{sizes-fit}
+use Rattle.shares.proofs.Numbers.{Matches, given, refuted, decided-number}
+use Rattle.shares.proofs.Numbers as N
+use Rattle.shares.proofs.Checked.{check-exactly}
+use Rattle.shares.proofs.Found.{found-length, found-lacks, found-free}
+
+-- a refusing test that does not apply
+passed : (b : Bool) → not b ≡ false → b ≡ true
+passed true e = refl
+passed false e = sym e
+
+no-slots : (xs : List ℕ) → length xs ≡ 0 → xs ≡ []
+no-slots [] e = refl
+no-slots (x ∷ xs) e = absurd (omega arith)
+
+module _ (links values : List ℕ) (b : AnyBook) where
+  -- 1 and 3; what comes after them may rest on a sound shape
+  check-matches : (wanted : ℕ) {us : List Test} {cs : List Condition} → ((s : Shape) → SoundBook links values b s → Matches us cs)
+      → Matches (checkTests links values b wanted ++ us) (checkConditions links values b ++ cs)
+  check-matches wanted {us} {cs} more =
+      N.one refl (refuted (sizesFit (length links) (length values)) (sizes-fit (length links) (length values))) (λ e. sized (sizes-fit (length links) (length values) .0 (passed _ e)))
+    where
+      sized : SizesFit (length links) (length values) → Matches (test 3 (not (eqb (checkFound wanted links values b .fault .rule) 0)) ∷ us) (condition 3 (((s : Shape) × SoundBook links values b s) → ⊥) ∷ cs)
+      sized f =
+          N.one refl (refuted (eqb (checkFound wanted links values b .fault .rule) 0) (λ e. exactly .0 (eqb-true _ _ e), λ S. eq-eqb _ _ (exactly .1 S)))
+          (λ e. let (s, S) = exactly .0 (eqb-true _ _ (passed _ e)) in more s S)
+        where
+          exactly : checkFound wanted links values b .fault .rule ≡ 0 ↔ ((s : Shape) × SoundBook links values b s)
+          exactly = check-exactly wanted links values b f
+
+  pub check-given : Given (checkConditions links values b) (checkCall links values b .number)
+  unfolding checkCall
+  check-given = given (check-matches 0 (λ s S. N.none))
+
+  module _ (l : ℕ) where
+    -- 1, 3 and 4; what comes after them may rest on a sound shape with the list in it
+    list-matches : {us : List Test} {cs : List Condition} → ((s : Shape) → SoundBook links values b s → l < b .lists → Matches us cs)
+        → Matches (listTests links values b l ++ us) (listConditions links values b l ++ cs)
+    list-matches more = check-matches l (λ s S. N.one refl (leb-true _ _, le-leb _ _) (λ e. more s S (leb-false _ _ e)))
+
+    -- a test of what was found is a fact of the sound shape
+    of-found : (s : Shape) → SoundBook links values b s → {test : Bool} {Fact : Shape → Type 0} → ((t : Shape) → SoundBook links values b t → test ≡ true ↔ Fact t) → test ≡ true ↔ OfShape links values b Fact
+    of-found s S i = (λ e. (s, S, i s S .0 e), λ (t, T, f). i t T .1 f)
+
+    push-matches : Matches (pushTests links values b l) (pushConditions links values b l)
+    push-matches =
+        list-matches (λ s S below.
+        N.one refl (of-found s S (λ t T. at-limit t T below)) (λ e.
+        N.one refl (of-found s S (λ t T. no-room t T below)) (λ f. N.none)))
+      where
+        e : Entry
+        e = entryOf links values b l
+
+        many : ℕ
+        many = foundOf links values b l .length
+
+        lacking : ℕ
+        lacking = foundOf links values b l .lacks
+
+        free : ℕ
+        free = foundOf links values b l .free
+
+        at-limit : (t : Shape) → SoundBook links values b t → l < b .lists → eqb many (e .limit) ≡ true ↔ (length (chainAt t l) ≡ e .limit)
+        at-limit t T below = (λ h. sym (found-length T l below) ∙ eqb-true _ _ h, λ h. eq-eqb _ _ (found-length T l below ∙ h))
+
+        no-room : (t : Shape) → SoundBook links values b t → l < b .lists
+            → (ltb many (e .limit) && (leb (e .share) many && leb free lacking)) ≡ true
+            ↔ ((length (chainAt t l) < e .limit) × (e .share ≤ length (chainAt t l)) × (length (t .idle) ≤ lacks (take (b .lists) (b .entries)) (t .chains)))
+        no-room t T below = (
+          λ h. let (x, yz) = and-both (ltb many (e .limit)) (leb (e .share) many && leb free lacking) h in
+              let (y, z) = and-both (leb (e .share) many) (leb free lacking) yz in
+              (omega (arith, ltb-true many (e .limit) x, found-length T l below), omega (arith, leb-true (e .share) many y, found-length T l below), omega (arith, leb-true free lacking z, found-free T l, found-lacks T l)),
+          λ (x, y, z). both-and _ _ (lt-ltb many (e .limit) (omega (arith, found-length T l below)))
+              (both-and _ _ (le-leb (e .share) many (omega (arith, found-length T l below))) (le-leb free lacking (omega (arith, found-free T l, found-lacks T l)))),
+        )
+
+    pop-matches : Matches (popTests links values b l) (popConditions links values b l)
+    pop-matches = list-matches (λ s S below. N.one refl (of-found s S (λ t T. is-empty t T below)) (λ e. N.none))
+      where
+        is-empty : (t : Shape) → SoundBook links values b t → l < b .lists → eqb (foundOf links values b l .length) 0 ≡ true ↔ (chainAt t l ≡ [])
+        is-empty t T below = (λ h. no-slots (chainAt t l) (sym (found-length T l below) ∙ eqb-true _ _ h), λ h. eq-eqb _ _ (found-length T l below ∙ ap length h))
+
+    read-matches : (room at : ℕ) → Matches (readTests links values b l room at) (readConditions links values b l room at)
+    read-matches room at = list-matches (λ s S below. N.one refl (of-found s S (λ t T. no-place t T below)) (λ e. N.none))
+      where
+        many : ℕ
+        many = foundOf links values b l .length
+
+        no-place : (t : Shape) → SoundBook links values b t → l < b .lists → not (leb at room && leb many (room - at)) ≡ true ↔ ((room < at) ⊎ (room < at + length (chainAt t l)))
+        no-place t T below = (to (leb at room) (leb many (room - at)) refl refl, from)
+          where
+            to : (x y : Bool) → leb at room ≡ x → leb many (room - at) ≡ y → not (leb at room && leb many (room - at)) ≡ true → (room < at) ⊎ (room < at + length (chainAt t l))
+            to true true ex ey h = absurd (not-both true refl (sym (rw (ex, ey) at h)))
+            to true false ex ey h = inr (omega (arith, leb-true at room ex, leb-false many (room - at) ey, found-length T l below))
+            to false y ex ey h = inl (leb-false _ _ ex)
+
+            from : (room < at) ⊎ (room < at + length (chainAt t l)) → not (leb at room && leb many (room - at)) ≡ true
+            from (inl k) = rw (lt-leb _ _ k)
+            from (inr k) = short (leb at room) refl
+              where
+                short : (x : Bool) → leb at room ≡ x → not (leb at room && leb many (room - at)) ≡ true
+                short true ex = rw (ex, lt-leb many (room - at) (omega (arith, leb-true at room ex, found-length T l below)))
+                short false ex = rw ex
+
+    -- ---- the number of each call
+
+    pub length-given : Given (listConditions links values b l) (lengthCall links values b l .refusal .number)
+    unfolding lengthCall
+    length-given =
+        let e : lengthCall links values b l .refusal .number ≡ firstThat (listTests links values b l) = decided-number _ _ (λ (r : Length). r .refusal .number) (λ n. refl) refl (listTests links values b l) in
+        subst (Given (listConditions links values b l)) (sym e) (given (list-matches (λ s S below. N.none)))
+
+    pub push-given : (end : End) (value : ℕ) → Given (pushConditions links values b l) (pushCall links values b l end value .answer .number)
+    unfolding pushCall
+    push-given end value =
+        let e : pushCall links values b l end value .answer .number ≡ firstThat (pushTests links values b l) = decided-number _ _ (λ (r : Outcome Called). r .answer .number) (λ n. refl) refl (pushTests links values b l) in
+        subst (Given (pushConditions links values b l)) (sym e) (given push-matches)
+
+    pub pop-given : (end : End) → Given (popConditions links values b l) (popCall links values b l end .answer .number)
+    unfolding popCall
+    pop-given end =
+        let e : popCall links values b l end .answer .number ≡ firstThat (popTests links values b l) = decided-number _ _ (λ (r : Outcome Called). r .answer .number) (λ n. refl) refl (popTests links values b l) in
+        subst (Given (popConditions links values b l)) (sym e) (given pop-matches)
+
+    pub clear-given : Given (listConditions links values b l) (clearCall links values b l .answer .number)
+    unfolding clearCall
+    clear-given =
+        let e : clearCall links values b l .answer .number ≡ firstThat (listTests links values b l) = decided-number _ _ (λ (r : Outcome Called). r .answer .number) (λ n. refl) refl (listTests links values b l) in
+        subst (Given (listConditions links values b l)) (sym e) (given (list-matches (λ s S below. N.none)))
+
+    pub read-given : (end : End) (buffer : List ℕ) (at : ℕ) → Given (readConditions links values b l (length buffer) at) (readCall links values b l end buffer at .answer .refusal .number)
+    unfolding readCall
+    read-given end buffer at =
+        let e : readCall links values b l end buffer at .answer .refusal .number ≡ firstThat (readTests links values b l (length buffer) at) = decided-number _ _ (λ (r : ReadLeft). r .answer .refusal .number) (λ n. refl) refl (readTests links values b l (length buffer) at) in
+        subst (Given (readConditions links values b l (length buffer) at)) (sym e) (given (read-matches (length buffer) at))

@@ -1,0 +1,24 @@
+-- `shares::check::check`: the number that the look gives.
+use mathlib.Core.Path.{ap, _∙_}
+use Prim.Native.Nat.{ℕ}
+use denote.Ref.{now}
+use borrow.Author.Needs.{needs}
+use Rattle.books.specs.declared.Refusal.{Refusal}
+use Rattle.books.specs.Book.{eight}
+use Rattle.shares.specs.declared.check.Looked.{Looked}
+use Rattle.shares.specs.Calls.{checkCall}
+use Rattle.shares.proofs.Stages.{look-number}
+use Rattle.shares.proofs.check.check.Statement.{statement}
+use Rattle.shares.proofs.check.check.Tie as tie
+
+abbrev numbered : ℕ → Refusal
+numbered n = record { number = n }
+
+returns : tie.Need-returns
+unfolding checkCall
+returns c =
+    let s = c .before .before .before .before .args in
+    ap (λ (r : Looked). r .refusal) (c .before .look .ensures) ∙ ap numbered (look-number 0 (now (s .links)) (now (s .values)) (eight (s .book)))
+
+pub check-spec : {M : Type 1} → statement M
+check-spec = tie.close (tie.spec (λ c. search needs) returns)

@@ -1,0 +1,28 @@
+// Clear: a list is emptied, and every slot that it held is wiped and free.
+use crate::Answer;
+use books::Book;
+use books::Refusal;
+ghost use mathlib.Core.Path.{_≡_};
+ghost use Rattle.books.specs.Book.{eight};
+ghost use Rattle.books.specs.Outcome.{outcome};
+ghost use Rattle.shares.specs.Calls.{asAnswer, clearCall};
+
+// Refused by 1, 3 or 4; the book comes back as it went in then, and neither slice changes. An empty list is cleared too.
+pub fn clear(links: &mut [u16], values: &mut [u64], book: Book, list: u16) -> Answer
+    ensures { λ r. ⌜ outcome r (now (links .exit)) (now (values .exit)) ≡ asAnswer (clearCall (now (links .entry)) (now (values .entry)) (eight book) list) ⌝ }
+{
+    let seen = crate::refusals::on_list(links, values, book, list);
+    let refusal = seen.refusal;
+    if refusal.number != 0 {
+        return Answer { refusal, book };
+    }
+    let found = seen.found;
+    let k = books::wide(list);
+    let entry = book.entries[k];
+    let free = book.free;
+    let gone = lists::clear::clear(links, values, entry, free, found.length);
+    Answer {
+        refusal: Refusal { number: 0 },
+        book: crate::ends::with_list(book, k, gone.entry, gone.free),
+    }
+}

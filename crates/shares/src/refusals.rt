@@ -1,0 +1,63 @@
+// Which number a call on a list is refused by, in 01's order: 1, 3 and 4 first, then what the call itself asks for.
+use crate::check::Looked;
+use books::Book;
+use books::Entry;
+ghost use mathlib.Core.Path.{_≡_};
+ghost use Rattle.books.specs.Book.{eight};
+ghost use Rattle.shares.specs.Numbers.{firstThat};
+ghost use Rattle.shares.specs.Calls.{roomTests, someTests, placeTests, onListOf};
+
+// 1, 3 and 4, which every call on a list tests; else 0, and what the check found.
+pub fn on_list(links: &[u16], values: &[u64], book: Book, list: u16) -> Looked
+    ensures { λ r. ⌜ r ≡ onListOf (now (links .entry)) (now (values .entry)) (eight book) list ⌝ }
+{
+    let seen = crate::check::look(links, values, book, list);
+    let refusal = seen.refusal;
+    if refusal.number == 0 {
+        if book.lists <= list {
+            return crate::check::refused(4);
+        }
+    }
+    seen
+}
+
+// 6 or 7 for a push on a list that has `many` slots; else 0.
+pub fn room(list: Entry, many: usize, lacks: usize, free: usize) -> u16
+    ensures { λ r. ⌜ r ≡ firstThat (roomTests list many lacks free) ⌝ }
+{
+    let limit = books::wide(list.limit);
+    let share = books::wide(list.share);
+    if many == limit {
+        return 6;
+    }
+    if many < limit {
+        if share <= many {
+            if free <= lacks {
+                return 7;
+            }
+        }
+    }
+    0
+}
+
+// 5 for a pop on a list that has `many` slots; else 0.
+pub fn some(many: usize) -> u16
+    ensures { λ r. ⌜ r ≡ firstThat (someTests many) ⌝ }
+{
+    if many == 0 {
+        return 5;
+    }
+    0
+}
+
+// 8 for a read of `many` values into a buffer of `places` places from `at` on; else 0. No sum is made that could wrap.
+pub fn place(many: usize, places: usize, at: usize) -> u16
+    ensures { λ r. ⌜ r ≡ firstThat (placeTests many places at) ⌝ }
+{
+    if at <= places {
+        if many <= places - at {
+            return 0;
+        }
+    }
+    8
+}
