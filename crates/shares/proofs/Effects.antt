@@ -6,7 +6,7 @@ use Prim.Native.Nat.{ℕ, _+_, _≤_, _<_}
 use native.Mathlib.Nat.{not-suc-le-zero}
 use native.Mathlib.Omega.{arith}
 use lib.ListN.{length, set, take, length-set}
-use lib.Seq.{length-take-le, getD-take, getD-set-same, getD-set-other, take-set-lt}
+use lib.Seq.{getD-set-same, getD-set-other, take-set-lt}
 use Rattle.books.specs.declared.Free.{Free}
 use Rattle.books.specs.declared.Entry.{Entry}
 use Rattle.books.specs.Book.{zeroEntry, entryAt, AnyBook}
@@ -30,12 +30,13 @@ use Rattle.lists.proofs.Front.{in-list, in-idle, contents-same}
 use Rattle.lists.proofs.Ends.{push-held, pop-held}
 use Rattle.lists.proofs.Clearing.{clear-held, clear-emptied}
 use Rattle.lists.proofs.Read.{read-forward, read-backward}
-use Rattle.shares.specs.Sound.{Shape, chainAt, Sound, SoundBook, Room}
+use Rattle.pools.specs.Sound.{Shape, chainAt, Sound, SoundBook, Room}
+use Rattle.pools.proofs.Found.{listed, entry-is}
 use Rattle.shares.specs.Calls.{withList, afterPush, afterPop, afterClear, afterRead}
 use Rattle.shares.specs.Done.{OtherEntries, OtherLists, Pushes, Pops, Clears, Reads}
-use Rattle.shares.proofs.Shape.{at-most, two-parts, unique}
-use Rattle.shares.proofs.Kept.{sound-held}
-use Rattle.shares.proofs.Steps.{count-joined, room-slot, push-sound, pop-sound, clear-sound}
+use Rattle.pools.proofs.Shape.{at-most, two-parts, unique}
+use Rattle.pools.proofs.Kept.{sound-held}
+use Rattle.pools.proofs.Steps.{count-joined, room-slot, push-sound, pop-sound, clear-sound}
 
 -- a pool with its book has one shape only
 pub unique-book : {links values : List ℕ} {b : AnyBook} {s t : Shape} → SoundBook links values b s → SoundBook links values b t → s ≡ t
@@ -56,16 +57,9 @@ end-of Back (x ∷ xs) h = back x xs
 module _ {links values : List ℕ} {b : AnyBook} {s : Shape} (S : SoundBook links values b s) (l : ℕ) (below : l < b .lists) where
   -- ---- from the entries of the L lists to the book
 
-  pub listed : l < length (take (b .lists) (b .entries))
-  listed = omega (arith, length-take-le (b .lists) (b .entries) (S .rules .there))
-
-  -- list l's entry is its entry in the whole book
-  pub entry-is : entryAt (take (b .lists) (b .entries)) l ≡ entryAt (b .entries) l
-  entry-is = getD-take (b .lists) (b .entries) l zeroEntry below
-
   -- each list is held by the cells
   pub book-held : Held links values (entryAt (b .entries) l) (b .free) (chainAt s l) (s .idle)
-  book-held = rw entry-is at (sound-held (S .pool) l listed)
+  book-held = rw (entry-is S l below) at (sound-held (S .pool) l (listed S l below))
 
   entry-set : (e : Entry) → entryAt (set (b .entries) l e) l ≡ e
   entry-set e = getD-set-same (b .entries) l e zeroEntry (omega (arith, S .rules .there))
@@ -97,14 +91,14 @@ module _ {links values : List ℕ} {b : AnyBook} {s : Shape} (S : SoundBook link
 
   -- where there is room the slot layer does not answer none
   pub room-takes : Room (take (b .lists) (b .entries)) s l → takeOf links values (b .free) .done ≡ true
-  room-takes room = go (s .idle) (room-slot (S .pool) l listed room) book-held
+  room-takes room = go (s .idle) (room-slot (S .pool) l (listed S l below) room) book-held
     where
       go : (fs : List ℕ) → 0 < length fs → Held links values (entryAt (b .entries) l) (b .free) (chainAt s l) fs → takeOf links values (b .free) .done ≡ true
       go [] h H = absurd (not-suc-le-zero h)
       go (f ∷ fs) h H = take-done links values (b .free) (rw (H .freeHead) (in-idle H f (count-first f fs))) .done
 
   pub pushes : (end : End) (value : ℕ) → Room (take (b .lists) (b .entries)) s l → Pushes end links values b l value s (afterPush links values b l end value)
-  pushes end value room = go (s .idle) refl (room-slot (S .pool) l listed room)
+  pushes end value room = go (s .idle) refl (room-slot (S .pool) l (listed S l below) room)
     where
       e : Entry
       e = entryAt (b .entries) l
@@ -122,7 +116,7 @@ module _ {links values : List ℕ} {b : AnyBook} {s : Shape} (S : SoundBook link
             rest = fs;
             first = i;
             sound = sound-set (r .answer .entry) (D .frame .sameLinks) (D .share) (D .limit)
-                (rw entry-is at (push-sound (subst (λ (t : Shape). Sound links values (take (b .lists) (b .entries)) (b .free) t) at-f (S .pool)) l listed value end (subst (λ (t : Shape). Room (take (b .lists) (b .entries)) t l) at-f room)));
+                (rw (entry-is S l below) at (push-sound (subst (λ (t : Shape). Sound links values (take (b .lists) (b .entries)) (b .free) t) at-f (S .pool)) l (listed S l below) value end (subst (λ (t : Shape). Room (take (b .lists) (b .entries)) t l) at-f room)));
             holds = J .holds;
             otherLists = others-kept (r .values)
                 (λ y p q. D .frame .otherValues y (one-other (b .free .head) y (λ k. count-apart (f ∷ fs) (count-first f fs) (subst (λ (zs : List ℕ). count y zs ≡ 0) i q) (sym (k ∙ H .freeHead)))));
@@ -162,7 +156,7 @@ module _ {links values : List ℕ} {b : AnyBook} {s : Shape} (S : SoundBook link
             slot = x;
             rest = xs;
             last = at;
-            sound = sound-set (r .answer .entry) (D .frame .sameLinks) (D .share) (D .limit) (rw entry-is at (pop-sound (S .pool) l listed x xs end at));
+            sound = sound-set (r .answer .entry) (D .frame .sameLinks) (D .share) (D .limit) (rw (entry-is S l below) at (pop-sound (S .pool) l (listed S l below) x xs end at));
             holds = ap (contents values) at ∙ sym (L .holds);
             wiped = L .wiped;
             otherLists = others-kept (r .values)
@@ -188,7 +182,7 @@ module _ {links values : List ℕ} {b : AnyBook} {s : Shape} (S : SoundBook link
       record {
         number = refl;
         noValue = refl;
-        sound = sound-set (r .answer .entry) (E .frame .sameLinks) (E .share) (E .limit) (rw entry-is at (clear-sound (S .pool) l listed));
+        sound = sound-set (r .answer .entry) (E .frame .sameLinks) (E .share) (E .limit) (rw (entry-is S l below) at (clear-sound (S .pool) l (listed S l below)));
         emptied = subst (λ (o : Outcome Cleared). Emptied links values (entryAt (b .entries) l) (b .free) o)
             (λ j. outcome (record { done = E .done j; entry = sym (entry-set (r .answer .entry)) j; free = r .answer .free }) (r .links) (r .values)) (clear-emptied (chainAt s l) book-held);
         wiped = E .wiped;

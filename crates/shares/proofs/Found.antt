@@ -1,4 +1,4 @@
--- What the check found, said of the sound shape; and what a call on a list knows once 1, 3 and 4 do not apply.
+-- What a call on a list knows once 1, 3 and 4 do not apply.
 use mathlib.Core.Path.{_≡_, refl, sym, ap, _∙_}
 use mathlib.Core.Logic.{_≢_}
 use mathlib.Core.Bool.{Bool, true, false}
@@ -6,49 +6,35 @@ use mathlib.Core.List.{List, _++_}
 use Prim.Native.Nat.{ℕ, suc, _-_, _≤_, _<_}
 use native.Mathlib.Omega.{arith}
 use lib.Dec.{leb, eqb}
-use lib.ListN.{length, take}
+use lib.ListN.{length}
 use borrow.Author.Tests.{eqb-true, eq-eqb, leb-true, leb-false, lt-leb}
-use Rattle.books.specs.declared.Entry.{Entry}
 use Rattle.books.specs.Book.{entryAt, AnyBook}
-use Rattle.books.proofs.Rules.{keeps-rules}
 use Rattle.lists.specs.declared.End.{End}
 use Rattle.lists.specs.Model.{nearOf}
 use Rattle.lists.specs.Read.{countRead}
-use Rattle.shares.specs.Sound.{Shape, chainAt, lacks, SoundBook}
-use Rattle.shares.specs.Size.{SizesFit, sizesFit}
+use Rattle.pools.specs.Sound.{Shape, SoundBook}
+use Rattle.pools.specs.Size.{SizesFit, sizesFit}
 use Rattle.shares.specs.Numbers.{Test, firstThat}
-use Rattle.shares.specs.Check.{poolFound, checkFound, lookOf}
-use Rattle.shares.specs.Calls.{decided, placeTests, listTests, onListOf}
-use Rattle.shares.proofs.Size.{sizes-fit}
+use Rattle.pools.specs.Check.{checkFound, lookOf}
+use Rattle.shares.specs.Calls.{decided, placeTests, checkTests, listTests, onListOf}
+use Rattle.pools.proofs.Size.{sizes-fit}
 use Rattle.shares.proofs.Numbers.{Numbered, nil, cons, first-first, first-then, decided-refused, decided-done}
-use Rattle.shares.proofs.Effects.{listed, entry-is, reads}
-use Rattle.shares.proofs.Checked.{sound-length, sound-lacks, sound-free, check-exactly}
+use Rattle.pools.proofs.Found.{found-length, shorter}
+use Rattle.shares.proofs.Effects.{reads}
+use Rattle.pools.proofs.Checked.{check-exactly}
 
--- ---- on a sound pool
+-- ---- the number that the check gives
 
-module _ {links values : List ℕ} {b : AnyBook} {s : Shape} (S : SoundBook links values b s) where
-  pub sound-sizes : SizesFit (length links) (length values)
-  sound-sizes = record { same = sym (S .pool .sameSize); size = S .pool .size }
-
-  kept : (wanted : ℕ) → checkFound wanted links values b ≡ poolFound wanted links values (take (b .lists) (b .entries)) (b .free)
-  unfolding checkFound
-  kept wanted = rw (keeps-rules (length links) b .1 (S .rules))
-
-  pub found-lacks : (wanted : ℕ) → checkFound wanted links values b .lacks ≡ lacks (take (b .lists) (b .entries)) (s .chains)
-  found-lacks wanted = rw (kept wanted) (sound-lacks wanted links values _ (b .free) (S .pool .sameSize) (S .pool .size) s (S .pool))
-
-  pub found-free : (wanted : ℕ) → checkFound wanted links values b .free ≡ length (s .idle)
-  found-free wanted = rw (kept wanted) (sound-free wanted links values _ (b .free) (S .pool .sameSize) (S .pool .size) s (S .pool))
-
-  module _ (l : ℕ) (below : l < b .lists) where
-    pub found-length : checkFound l links values b .length ≡ length (chainAt s l)
-    found-length = rw (kept l) (sound-length l links values _ (b .free) (S .pool .sameSize) (S .pool .size) s (S .pool) (listed S l below))
-
-    pub within : length (chainAt s l) ≤ entryAt (b .entries) l .limit
-    within = rw (ap (λ (e : Entry). e .limit) (entry-is S l below)) at (S .pool .short l (listed S l below))
-
-    pub shorter : length (chainAt s l) < 4096
-    shorter = omega (arith, within, S .rules .fair l below .1, S .pool .size .most)
+module _ (wanted : ℕ) (links values : List ℕ) (b : AnyBook) where
+  pub look-number : lookOf wanted links values b .refusal .number ≡ firstThat (checkTests links values b wanted)
+  unfolding lookOf
+  look-number = go (sizesFit (length links) (length values)) (eqb (checkFound wanted links values b .fault .rule) 0) refl refl
+    where
+      go : (s n : Bool) → sizesFit (length links) (length values) ≡ s → eqb (checkFound wanted links values b .fault .rule) 0 ≡ n
+          → lookOf wanted links values b .refusal .number ≡ firstThat (checkTests links values b wanted)
+      go true true e f = rw (e, f)
+      go true false e f = rw (e, f)
+      go false n e f = rw e
 
 -- ---- once 1, 3 and 4 do not apply
 

@@ -24,12 +24,12 @@ use Rattle.chains.specs.Count.{hit, count}
 use Rattle.chains.specs.Chain.{cell, firstOr, lastOr, after}
 use Rattle.chains.proofs.Count.{hit-same, hit-other}
 use Rattle.chains.proofs.Chain.{Chain, linked-iff}
-use Rattle.shares.specs.Sound.{Shape, joinedUp, everySlot, lacks, Sound, SoundBook}
-use Rattle.shares.specs.Size.{SizesFit, sizesFit}
+use Rattle.pools.specs.Sound.{Shape, joinedUp, everySlot, lacks, Sound, SoundBook}
+use Rattle.pools.specs.Size.{SizesFit, sizesFit}
 use Rattle.shares.specs.Numbers.{firstThat, Given}
 use Rattle.lists.specs.Model.{newOf}
 use Rattle.shares.specs.Setup.{SetupRefused, SetupRules, SetupKeeps, addedUp, slotsFrom, setUp, freshLink, freshValue, freshEntry, freshEntries, freshBook, setupTests, setupConditions, setupOf}
-use Rattle.shares.proofs.Size.{sizes-fit}
+use Rattle.pools.proofs.Size.{sizes-fit}
 use Rattle.shares.proofs.Numbers.{Matches, given, refuted}
 use Rattle.shares.proofs.Numbers as N
 
@@ -86,7 +86,7 @@ module _ (links values : List ℕ) (lists : ℕ) (shares limits : List ℕ) wher
       N.one refl (refuted (sizesFit (length links) (length values)) (sizes-fit (length links) (length values))) (λ f.
       N.one refl (refuted _ (Iff·trans (keeps-rules (length links) _) (fresh-rules (length links) lists shares limits))) (λ g. N.none))
 
-  setup-number : setupOf links values lists shares limits .answer .refusal .number ≡ firstThat (setupTests links values lists shares limits)
+  pub setup-number : setupOf links values lists shares limits .answer .refusal .number ≡ firstThat (setupTests links values lists shares limits)
   unfolding setupOf
   setup-number = go (eqb (firstThat (setupTests links values lists shares limits)) 0) refl
     where

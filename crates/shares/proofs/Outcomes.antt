@@ -14,13 +14,14 @@ use Rattle.books.specs.Book.{entryAt, AnyBook}
 use Rattle.books.specs.Outcome.{Outcome}
 use Rattle.lists.specs.declared.End.{End}
 use Rattle.shares.specs.declared.Length.{Length}
-use Rattle.shares.specs.Sound.{Shape, chainAt, lacks, SoundBook, Room}
+use Rattle.pools.specs.Sound.{Shape, chainAt, lacks, SoundBook, Room}
 use Rattle.shares.specs.Numbers.{Test, firstThat}
 use Rattle.shares.specs.Calls.{decided, placeTests, Called, ReadLeft, foundOf, entryOf, roomTests, someTests, listTests, pushTests, popTests, readTests, notCalled, afterPush, afterPop, afterClear, lengthCall, pushCall, popCall, clearCall, readCall}
 use Rattle.shares.specs.Done.{Refused, Pushes, Pops, Clears, Reads, ReadRefused}
+use Rattle.pools.proofs.Found.{entry-is, found-length, found-lacks, found-free, within}
 use Rattle.shares.proofs.Numbers.{decided-ind, first-first, first-then}
-use Rattle.shares.proofs.Effects.{entry-is, pushes, pops, clears, reads}
-use Rattle.shares.proofs.Found.{on-list-number, on-list-sound, found-length, found-lacks, found-free, within, placed, list-numbered}
+use Rattle.shares.proofs.Effects.{pushes, pops, clears, reads}
+use Rattle.shares.proofs.Found.{on-list-number, on-list-sound, placed, list-numbered}
 
 -- neither 6 nor 7, of a list that is within its limit
 roomy : (e : Entry) (many lacking free : ℕ) → many ≤ e .limit → firstThat (roomTests e many lacking free) ≡ 0 → (many < e .limit) × ((many < e .share) ⊎ (lacking < free))

@@ -19,8 +19,8 @@ use Rattle.shares.specs.declared.Answer.{Answer}
 use Rattle.shares.specs.declared.Length.{Length}
 use Rattle.shares.specs.declared.Popped.{Popped}
 use Rattle.shares.specs.declared.Read.{Read}
-use Rattle.shares.specs.declared.check.Found.{Found}
-use Rattle.shares.specs.declared.check.Looked.{Looked}
+use Rattle.pools.specs.declared.check.Found.{Found}
+use Rattle.pools.specs.declared.check.Looked.{Looked}
 use Rattle.shares.specs.Numbers.{Test, firstThat}
 use Rattle.shares.specs.Calls.{roomTests, someTests, placeTests, foundOf, entryOf, onListOf, readLeft, readOf, withList, asAnswer, asPopped, notCalled, lengthCall, pushCall, popCall, clearCall, readCall}
 use Rattle.shares.proofs.Found.{on-list-found, on-list-below, on-list-length, read-count, by-list, by-call, goes}

@@ -13,17 +13,17 @@ use Rattle.books.specs.Book.{AnyBook}
 use Rattle.books.specs.Outcome.{Outcome}
 use Rattle.books.proofs.Tests.{and-both, both-and, not-both}
 use Rattle.lists.specs.declared.End.{End}
-use Rattle.shares.specs.Sound.{Shape, chainAt, lacks, SoundBook}
-use Rattle.shares.specs.Size.{SizesFit, sizesFit}
+use Rattle.pools.specs.Sound.{Shape, chainAt, lacks, SoundBook}
+use Rattle.pools.specs.Size.{SizesFit, sizesFit}
 use Rattle.shares.specs.Numbers.{Test, test, firstThat, Condition, condition, Given}
-use Rattle.shares.specs.Check.{checkFound}
+use Rattle.pools.specs.Check.{checkFound}
 use Rattle.shares.specs.declared.Length.{Length}
 use Rattle.shares.specs.Calls.{Called, ReadLeft, OfShape, checkTests, checkConditions, foundOf, entryOf, listTests, listConditions, pushTests, pushConditions, popTests, popConditions, readTests, readConditions, checkCall, lengthCall, pushCall, popCall, clearCall, readCall}
-use Rattle.shares.proofs.Size.{sizes-fit}
+use Rattle.pools.proofs.Size.{sizes-fit}
 use Rattle.shares.proofs.Numbers.{Matches, given, refuted, decided-number}
 use Rattle.shares.proofs.Numbers as N
-use Rattle.shares.proofs.Checked.{check-exactly}
-use Rattle.shares.proofs.Found.{found-length, found-lacks, found-free}
+use Rattle.pools.proofs.Checked.{check-exactly}
+use Rattle.pools.proofs.Found.{found-length, found-lacks, found-free}
 
 -- a refusing test that does not apply
 passed : (b : Bool) → not b ≡ false → b ≡ true
@@ -123,34 +123,41 @@ module _ (links values : List ℕ) (b : AnyBook) where
                 short true ex = rw (ex, lt-leb many (room - at) (omega (arith, leb-true at room ex, found-length T l below)))
                 short false ex = rw ex
 
-    -- ---- the number of each call
+    -- ---- the number of each call is that of the first test that applies
+
+    pub length-number : lengthCall links values b l .refusal .number ≡ firstThat (listTests links values b l)
+    unfolding lengthCall
+    length-number = decided-number _ _ (λ (r : Length). r .refusal .number) (λ n. refl) refl (listTests links values b l)
+
+    pub push-number : (end : End) (value : ℕ) → pushCall links values b l end value .answer .number ≡ firstThat (pushTests links values b l)
+    unfolding pushCall
+    push-number end value = decided-number _ _ (λ (r : Outcome Called). r .answer .number) (λ n. refl) refl (pushTests links values b l)
+
+    pub pop-number : (end : End) → popCall links values b l end .answer .number ≡ firstThat (popTests links values b l)
+    unfolding popCall
+    pop-number end = decided-number _ _ (λ (r : Outcome Called). r .answer .number) (λ n. refl) refl (popTests links values b l)
+
+    pub clear-number : clearCall links values b l .answer .number ≡ firstThat (listTests links values b l)
+    unfolding clearCall
+    clear-number = decided-number _ _ (λ (r : Outcome Called). r .answer .number) (λ n. refl) refl (listTests links values b l)
+
+    pub read-number : (end : End) (buffer : List ℕ) (at : ℕ) → readCall links values b l end buffer at .answer .refusal .number ≡ firstThat (readTests links values b l (length buffer) at)
+    unfolding readCall
+    read-number end buffer at = decided-number _ _ (λ (r : ReadLeft). r .answer .refusal .number) (λ n. refl) refl (readTests links values b l (length buffer) at)
+
+    -- ---- and so the first whose condition holds
 
     pub length-given : Given (listConditions links values b l) (lengthCall links values b l .refusal .number)
-    unfolding lengthCall
-    length-given =
-        let e : lengthCall links values b l .refusal .number ≡ firstThat (listTests links values b l) = decided-number _ _ (λ (r : Length). r .refusal .number) (λ n. refl) refl (listTests links values b l) in
-        subst (Given (listConditions links values b l)) (sym e) (given (list-matches (λ s S below. N.none)))
+    length-given = subst (Given (listConditions links values b l)) (sym (length-number)) (given (list-matches (λ s S below. N.none)))
 
     pub push-given : (end : End) (value : ℕ) → Given (pushConditions links values b l) (pushCall links values b l end value .answer .number)
-    unfolding pushCall
-    push-given end value =
-        let e : pushCall links values b l end value .answer .number ≡ firstThat (pushTests links values b l) = decided-number _ _ (λ (r : Outcome Called). r .answer .number) (λ n. refl) refl (pushTests links values b l) in
-        subst (Given (pushConditions links values b l)) (sym e) (given push-matches)
+    push-given end value = subst (Given (pushConditions links values b l)) (sym (push-number end value)) (given push-matches)
 
     pub pop-given : (end : End) → Given (popConditions links values b l) (popCall links values b l end .answer .number)
-    unfolding popCall
-    pop-given end =
-        let e : popCall links values b l end .answer .number ≡ firstThat (popTests links values b l) = decided-number _ _ (λ (r : Outcome Called). r .answer .number) (λ n. refl) refl (popTests links values b l) in
-        subst (Given (popConditions links values b l)) (sym e) (given pop-matches)
+    pop-given end = subst (Given (popConditions links values b l)) (sym (pop-number end)) (given pop-matches)
 
     pub clear-given : Given (listConditions links values b l) (clearCall links values b l .answer .number)
-    unfolding clearCall
-    clear-given =
-        let e : clearCall links values b l .answer .number ≡ firstThat (listTests links values b l) = decided-number _ _ (λ (r : Outcome Called). r .answer .number) (λ n. refl) refl (listTests links values b l) in
-        subst (Given (listConditions links values b l)) (sym e) (given (list-matches (λ s S below. N.none)))
+    clear-given = subst (Given (listConditions links values b l)) (sym (clear-number)) (given (list-matches (λ s S below. N.none)))
 
     pub read-given : (end : End) (buffer : List ℕ) (at : ℕ) → Given (readConditions links values b l (length buffer) at) (readCall links values b l end buffer at .answer .refusal .number)
-    unfolding readCall
-    read-given end buffer at =
-        let e : readCall links values b l end buffer at .answer .refusal .number ≡ firstThat (readTests links values b l (length buffer) at) = decided-number _ _ (λ (r : ReadLeft). r .answer .refusal .number) (λ n. refl) refl (readTests links values b l (length buffer) at) in
-        subst (Given (readConditions links values b l (length buffer) at)) (sym e) (given (read-matches (length buffer) at))
+    read-given end buffer at = subst (Given (readConditions links values b l (length buffer) at)) (sym (read-number end buffer at)) (given (read-matches (length buffer) at))

@@ -19,12 +19,12 @@ use Rattle.shares.specs.declared.Answer.{Answer}
 use Rattle.shares.specs.declared.Popped.{Popped}
 use Rattle.shares.specs.declared.Length.{Length}
 use Rattle.shares.specs.declared.Read.{Read}
-use Rattle.shares.specs.declared.check.Found.{Found}
-use Rattle.shares.specs.declared.check.Looked.{Looked}
-use Rattle.shares.specs.Size.{SizesFit, sizesFit}
-use Rattle.shares.specs.Sound.{Shape, chainAt, lacks, SoundBook}
+use Rattle.pools.specs.declared.check.Found.{Found}
+use Rattle.pools.specs.declared.check.Looked.{Looked}
+use Rattle.pools.specs.Size.{SizesFit, sizesFit}
+use Rattle.pools.specs.Sound.{Shape, chainAt, lacks, SoundBook}
 use Rattle.shares.specs.Numbers.{Test, test, firstThat, Condition, condition}
-use Rattle.shares.specs.Check.{checkFound, refusedBy, lookOf}
+use Rattle.pools.specs.Check.{checkFound, refusedBy, lookOf}
 
 -- ---- which number
 

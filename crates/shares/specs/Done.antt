@@ -14,7 +14,7 @@ use Rattle.lists.specs.declared.End.{End}
 use Rattle.lists.specs.declared.End.the-variants.{Front, Back}
 use Rattle.lists.specs.Meaning.{joined, contents, PushDone, PopDone}
 use Rattle.lists.specs.Clear.{Emptied}
-use Rattle.shares.specs.Sound.{Shape, chainAt, put, SoundBook}
+use Rattle.pools.specs.Sound.{Shape, chainAt, put, SoundBook}
 use Rattle.shares.specs.Calls.{Called, ReadLeft}
 
 -- a refused call that may change the pool. 01: "A refused pop returns value 0"; "otherwise the book comes back as it went in. No lent slice changes"

@@ -1,8 +1,6 @@
--- What a reader of the shares believes: what a sound pool is, and what each call gives.
-pub mod Sound
-pub mod Size
+-- What a reader of the shares believes: which number each call gives, what it leaves, and what that means.
 pub mod Numbers
 pub mod Setup
-pub mod Check
 pub mod Calls
 pub mod Done
+pub mod Rows

@@ -13,7 +13,7 @@ use Rattle.books.specs.Tabulate.{tabulate}
 use Rattle.books.specs.Outcome.{Outcome, outcome}
 use Rattle.lists.specs.Model.{newOf}
 use Rattle.shares.specs.declared.Answer.{Answer}
-use Rattle.shares.specs.Size.{SizesFit, sizesFit}
+use Rattle.pools.specs.Size.{SizesFit, sizesFit}
 use Rattle.shares.specs.Numbers.{Test, test, firstThat, Condition, condition}
 
 -- 01: "links 1 to 2, 2 to 3, and so on, the last 0"

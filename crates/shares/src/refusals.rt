@@ -1,7 +1,7 @@
 // Which number a call on a list is refused by, in 01's order: 1, 3 and 4 first, then what the call itself asks for.
-use crate::check::Looked;
 use books::Book;
 use books::Entry;
+use pools::check::Looked;
 ghost use mathlib.Core.Path.{_≡_};
 ghost use Rattle.books.specs.Book.{eight};
 ghost use Rattle.shares.specs.Numbers.{firstThat};
@@ -11,11 +11,11 @@ ghost use Rattle.shares.specs.Calls.{roomTests, someTests, placeTests, o
 pub fn on_list(links: &[u16], values: &[u64], book: Book, list: u16) -> Looked
     ensures { λ r. ⌜ r ≡ onListOf (now (links .entry)) (now (values .entry)) (eight book) list ⌝ }
 {
-    let seen = crate::check::look(links, values, book, list);
+    let seen = pools::check::look(links, values, book, list);
     let refusal = seen.refusal;
     if refusal.number == 0 {
         if book.lists <= list {
-            return crate::check::refused(4);
+            return pools::check::refused(4);
         }
     }
     seen

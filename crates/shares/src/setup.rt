@@ -9,7 +9,6 @@ ghost use Prim.Native.Nat.{_≤_, _<_};
 ghost use lib.ListN.{length};
 ghost use Rattle.books.specs.Tabulate.{tabulate};
 ghost use Rattle.books.specs.Outcome.{outcome};
-ghost use Rattle.shares.specs.Size.{sizesFit};
 ghost use Rattle.shares.specs.Setup.{freshLink, freshValue, freshBook, freshEntries, answered, setupOf};
 ghost use Rattle.books.specs.Book.{zeroBook};
 
@@ -24,7 +23,7 @@ pub fn setup(
 ) -> Answer
     ensures { λ r. ⌜ outcome r (now (links .exit)) (now (values .exit)) ≡ setupOf (now (links .entry)) (now (values .entry)) lists shares limits ⌝ }
 {
-    if !sizes_fit(links.len(), values.len()) {
+    if !pools::sizes_fit(links.len(), values.len()) {
         return refused(1);
     }
     let book = fresh_book(lists, shares, limits);
@@ -37,16 +36,6 @@ pub fn setup(
         refusal: Refusal { number: 0 },
         book,
     }
-}
-
-// Number 1 is given exactly where this is false.
-pub fn sizes_fit(links: usize, values: usize) -> bool
-    ensures { λ r. ⌜ r ≡ sizesFit links values ⌝ }
-{
-    if links != values {
-        return false;
-    }
-    Book::size_fits(links)
 }
 
 fn refused(number: u16) -> Answer

@@ -5,9 +5,9 @@ use denote.Ref.{now}
 use borrow.Author.Needs.{needs}
 use Rattle.books.specs.declared.Refusal.{Refusal}
 use Rattle.books.specs.Book.{eight}
-use Rattle.shares.specs.declared.check.Looked.{Looked}
+use Rattle.pools.specs.declared.check.Looked.{Looked}
 use Rattle.shares.specs.Calls.{checkCall}
-use Rattle.shares.proofs.Stages.{look-number}
+use Rattle.shares.proofs.Found.{look-number}
 use Rattle.shares.proofs.check.check.Statement.{statement}
 use Rattle.shares.proofs.check.check.Tie as tie
 

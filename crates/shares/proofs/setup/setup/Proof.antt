@@ -4,12 +4,12 @@ use lib.ListN.{length}
 use denote.Ref.{now}
 use borrow.Author.Needs.{needs}
 use borrow.Author.Tests.{not-true, not-false}
-use Rattle.shares.specs.Size.{SizesFit}
+use Rattle.pools.specs.Size.{SizesFit}
 use Rattle.books.specs.declared.Book.{Book}
 use Rattle.books.specs.Book.{eight}
 use Rattle.books.specs.Test.{keepsRules}
 use Rattle.shares.specs.Setup.{freshBook, setupOf}
-use Rattle.shares.proofs.Size.{sizes-fit}
+use Rattle.pools.proofs.Size.{sizes-fit}
 use Rattle.shares.proofs.setup.setup.Statement.{statement}
 use Rattle.shares.proofs.setup.setup.Tie as tie
 

@@ -1,0 +1,343 @@
+// The check: in stages along the lists and the idle chain, with what it gathers on the way and where it finds a pool unsound.
+use books::Book;
+use books::Entry;
+use books::Free;
+use books::Refusal;
+ghost use mathlib.Core.Path.{_≡_};
+ghost use mathlib.Core.Bool.{cond, _&&_};
+ghost use Prim.Native.Nat.{_+_, _-_, _≤_, _<_};
+ghost use lib.Dec.{eqb, ltb};
+ghost use lib.ListN.{length, take};
+ghost use Rattle.books.specs.Book.{eight};
+ghost use Rattle.books.specs.Rules.{Size};
+ghost use Rattle.slots.specs.Met.{unmet};
+ghost use Rattle.slots.specs.Walk.{idlePath};
+ghost use Rattle.pools.specs.Size.{SizesFit};
+ghost use Rattle.pools.specs.Check.{fault, gatherOne, gatherFault, gatheredNone, round, gatherAll, nothingMet, faulty, nullSlotZero, lowestUnmet, idleFault, spareFault, idleFound, poolFound, checkFound, refusedBy, lookOf};
+
+// The first rule that is broken, with a list and a place, 0 where none applies. Rule 0 is no fault.
+// 9 is L, shares and limits; 10 slot 0; 11 a live chain; 12 the idle chain; 13 a slot in no chain; 14 a free slot that is not wiped; 15 limits and shares.
+#[repr(C)]
+pub struct Fault {
+    pub rule: u16,
+    pub list: u16,
+    pub place: usize,
+}
+
+// What the walks along the lists so far have gathered: the fault, if there was one; how many slots are live; what the lists lack of
+// their shares; the lowest list over its limit, or L; and the length of the list that is asked for.
+pub struct Gathered {
+    pub fault: Fault,
+    pub live: usize,
+    pub lacks: usize,
+    pub over: u16,
+    pub length: usize,
+}
+
+// What the check finds: the fault, if there is one, and else the length of the list that is asked for, what the lists lack of their
+// shares, and how many slots are free.
+pub struct Found {
+    pub fault: Fault,
+    pub length: usize,
+    pub lacks: usize,
+    pub free: usize,
+}
+
+// 1 or 3, or else 0 and what the check found.
+pub struct Looked {
+    pub refusal: Refusal,
+    pub found: Found,
+}
+
+// How much of its share a list lacks: share less length, or 0.
+fn lack(share: u16, many: usize) -> usize
+    ensures { λ r. ⌜ (r ≡ share - many) × (r < 65536) ⌝ }
+{
+    let whole = books::wide(share);
+    if many < whole {
+        return whole - many;
+    }
+    0
+}
+
+// The lowest list over its limit so far, or L.
+fn over_of(count: u16, list: u16, limit: u16, many: usize, over: u16) -> u16
+    ensures { λ r. ⌜ r ≡ cond (eqb over count && ltb limit many) list over ⌝ }
+{
+    let most = books::wide(limit);
+    if over == count {
+        if most < many {
+            return list;
+        }
+    }
+    over
+}
+
+// One list more, number `list` of `count`, whose walk passed `many` slots.
+fn gather_one(
+    wanted: u16,
+    count: u16,
+    list: u16,
+    entry: Entry,
+    many: usize,
+    g: Gathered,
+) -> Gathered
+    requires { ⌜ (g .live + many < 18446744073709551616) × (g .lacks + 65536 < 18446744073709551616) ⌝ }
+    ensures { λ r. ⌜ (r ≡ gatherOne wanted count list entry many g) × (r .lacks ≤ g .lacks + 65535) ⌝ }
+{
+    let fault = g.fault;
+    let live = g.live + many;
+    let lacks = g.lacks + lack(entry.share, many);
+    let over = over_of(count, list, entry.limit, many, g.over);
+    if list == wanted {
+        return Gathered {
+            fault,
+            live,
+            lacks,
+            over,
+            length: many,
+        };
+    }
+    Gathered {
+        fault,
+        live,
+        lacks,
+        over,
+        length: g.length,
+    }
+}
+
+// The walk along list number `list` failed after `many` slots.
+fn gather_fault(list: u16, many: usize, g: Gathered) -> Gathered
+    ensures { λ r. ⌜ r ≡ gatherFault list many g ⌝ }
+{
+    Gathered {
+        fault: Fault {
+            rule: 11,
+            list,
+            place: many,
+        },
+        live: g.live,
+        lacks: g.lacks,
+        over: g.over,
+        length: g.length,
+    }
+}
+
+fn gathered_none(count: u16) -> Gathered
+    ensures { λ r. ⌜ r ≡ gatheredNone count ⌝ }
+{
+    Gathered {
+        fault: Fault {
+            rule: 0,
+            list: 0,
+            place: 0,
+        },
+        live: 0,
+        lacks: 0,
+        over: count,
+        length: 0,
+    }
+}
+
+// The walks along the first `count` lists, in number order, up to the first that fails.
+fn gather(links: &[u16], met: &mut [u8], count: u16, entries: [Entry; 8], wanted: u16) -> Gathered
+    requires { ⌜ count ≤ 8 ⌝ }
+    ensures { λ r. ⌜ round r (now (met .exit)) ≡ gatherAll wanted count (now (links .entry)) 0 (take count entries) (now (met .entry)) (gatheredNone count) ⌝ }
+{
+    let mut g = gathered_none(count);
+    let mut list: u16 = 0;
+    while list < count {
+        let k = books::wide(list);
+        let entry = entries[k];
+        let walk = lists::walk::walk_live(links, met, entry);
+        if !walk.ok {
+            return gather_fault(list, walk.length, g);
+        }
+        g = gather_one(wanted, count, list, entry, walk.length, g);
+        list += 1;
+    }
+    g
+}
+
+fn faulty(rule: u16, list: u16, place: usize) -> Found
+    ensures { λ r. ⌜ r ≡ faulty (fault rule list place) ⌝ }
+{
+    Found {
+        fault: Fault { rule, list, place },
+        length: 0,
+        lacks: 0,
+        free: 0,
+    }
+}
+
+// Has slot 0 link 0 and value 0?
+fn null_slot_zero(links: &[u16], values: &[u64]) -> bool
+    requires { ⌜ (0 < length (now links)) × (0 < length (now values)) ⌝ }
+    ensures { λ r. ⌜ r ≡ nullSlotZero (now (links .entry)) (now (values .entry)) ⌝ }
+{
+    if links[0] == 0 {
+        return values[0] == 0;
+    }
+    false
+}
+
+// The lowest slot from 1 on that was not met, or the pool's size.
+fn lowest_unmet(met: &[u8], size: usize) -> usize
+    requires { ⌜ (0 < size) × (size ≤ 4096) ⌝ }
+    ensures { λ r. ⌜ r ≡ lowestUnmet (now (met .entry)) 1 (size - 1) ⌝ }
+{
+    let mut slot: u16 = 1;
+    let mut place: usize = 1;
+    while place < size {
+        if !lists::walk::is_met(met, slot) {
+            return place;
+        }
+        slot += 1;
+        place += 1;
+    }
+    place
+}
+
+// Rules 12 to 15, once every list was walked and the idle chain too.
+fn idle_fault(
+    met: &[u8],
+    size: usize,
+    count: u16,
+    g: Gathered,
+    ended: bool,
+    free: usize,
+    unwiped: u16,
+) -> Fault
+    requires { ⌜ (0 < size) × (size ≤ 4096) × (g .live + free < 18446744073709551615) ⌝ }
+    ensures { λ r. ⌜ r ≡ idleFault (now (met .entry)) size count g ended free unwiped ⌝ }
+{
+    if !ended {
+        return Fault {
+            rule: 12,
+            list: 0,
+            place: free,
+        };
+    }
+    if g.live + free + 1 != size {
+        return Fault {
+            rule: 13,
+            list: 0,
+            place: lowest_unmet(met, size),
+        };
+    }
+    if unwiped != Book::NULL {
+        return Fault {
+            rule: 14,
+            list: 0,
+            place: books::wide(unwiped),
+        };
+    }
+    spare_fault(count, g.over, g.lacks, free)
+}
+
+// Rule 15: the lowest list over its limit, or else L where the free slots do not cover what the lists lack.
+fn spare_fault(count: u16, over: u16, lacks: usize, free: usize) -> Fault
+    ensures { λ r. ⌜ r ≡ spareFault count over lacks free ⌝ }
+{
+    if over != count {
+        return Fault {
+            rule: 15,
+            list: over,
+            place: 0,
+        };
+    }
+    if free < lacks {
+        return Fault {
+            rule: 15,
+            list: count,
+            place: 0,
+        };
+    }
+    Fault {
+        rule: 0,
+        list: 0,
+        place: 0,
+    }
+}
+
+// The idle stages, after the walks along the lists.
+fn find_idle(
+    links: &[u16],
+    values: &[u64],
+    met: &mut [u8],
+    count: u16,
+    free: Free,
+    g: Gathered,
+) -> Found
+    requires { ⌜ Size (length (now links)) × (g .live + unmet (now met) ≤ 4096) ⌝ }
+    ensures { λ r. ⌜ r ≡ idleFound (now (links .entry)) (now (values .entry)) count (round g (now (met .entry))) (idlePath (now (links .entry)) (now (met .entry)) free) ⌝ }
+{
+    let idle = lists::walk::walk_idle(links, values, met, free);
+    let many = idle.length;
+    let fault = idle_fault(met, links.len(), count, g, idle.ok, many, idle.unwiped);
+    Found {
+        fault,
+        length: g.length,
+        lacks: g.lacks,
+        free: many,
+    }
+}
+
+// Rules 10 to 15, with the record of slots met.
+fn find_over(links: &[u16], values: &[u64], met: &mut [u8], book: Book, wanted: u16) -> Found
+    requires { ⌜ SizesFit (length (now links)) (length (now values)) × (now met ≡ nothingMet) × (book .lists ≤ 8) ⌝ }
+    ensures { λ r. ⌜ r ≡ poolFound wanted (now (links .entry)) (now (values .entry)) (take (book .lists) (book .entries)) (book .free) ⌝ }
+{
+    if !null_slot_zero(links, values) {
+        return faulty(10, 0, 0);
+    }
+    let entries = book.entries;
+    let free = book.free;
+    let g = gather(links, met, book.lists, entries, wanted);
+    let fault = g.fault;
+    if fault.rule != 0 {
+        return faulty(fault.rule, fault.list, fault.place);
+    }
+    find_idle(links, values, met, book.lists, free, g)
+}
+
+// The whole check, rule 9 first. The record is made here and lent on, one byte for each slot of the largest pool.
+fn find(links: &[u16], values: &[u64], book: Book, wanted: u16) -> Found
+    requires { ⌜ SizesFit (length (now links)) (length (now values)) ⌝ }
+    ensures { λ r. ⌜ r ≡ checkFound wanted (now (links .entry)) (now (values .entry)) (eight book) ⌝ }
+{
+    if !book.keeps_rules(links.len()) {
+        return faulty(9, 0, 0);
+    }
+    let mut met = [0u8; 4096];
+    find_over(links, values, &mut met, book, wanted)
+}
+
+// A refusal, with nothing found.
+pub fn refused(number: u16) -> Looked
+    ensures { λ r. ⌜ r ≡ refusedBy number ⌝ }
+{
+    Looked {
+        refusal: Refusal { number },
+        found: faulty(0, 0, 0),
+    }
+}
+
+// 1 where the sizes do not fit, 3 where the pool is not sound; else 0, and what the check found.
+pub fn look(links: &[u16], values: &[u64], book: Book, wanted: u16) -> Looked
+    ensures { λ r. ⌜ r ≡ lookOf wanted (now (links .entry)) (now (values .entry)) (eight book) ⌝ }
+{
+    if !crate::sizes_fit(links.len(), values.len()) {
+        return refused(1);
+    }
+    let found = find(links, values, book, wanted);
+    let fault = found.fault;
+    if fault.rule != 0 {
+        return refused(3);
+    }
+    Looked {
+        refusal: Refusal { number: 0 },
+        found,
+    }
+}
