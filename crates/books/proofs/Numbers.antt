@@ -4,7 +4,8 @@ use mathlib.Core.Bool.{true, false}
 use mathlib.Core.List.{List}
 use Prim.Native.Nat.{ℕ}
 use lib.ListN.{replicate}
-use Rattle.books.specs.Book.{nullSlot, wipeWord, mostLists, zeroBook, wordsOf}
+use Rattle.books.specs.declared.Book.{Book}
+use Rattle.books.specs.Book.{nullSlot, wipeWord, mostLists, zeroBook, wordsOf, AnyBook, eight, bookOf}
 use Rattle.books.specs.Outcome.{outcome}
 use Rattle.books.specs.Test.{sizeFits}
 
@@ -28,3 +29,10 @@ zero-words = refl
 pub outcome-plain : {A : Type 0} (answer : A) (links values : List ℕ)
     → (outcome answer links values .answer ≡ answer) × (outcome answer links values .links ≡ links) × (outcome answer links values .values ≡ values)
 outcome-plain answer links values = (refl, refl, refl)
+
+-- the book of eight entries as one with any number of places, and told back: its L, its entries and its idle chain are its own
+pub eight-plain : (b : Book) → (eight b .places ≡ 8) × (eight b .lists ≡ b .lists) × (eight b .entries ≡ b .entries) × (eight b .free ≡ b .free)
+eight-plain b = (refl, refl, refl, refl)
+
+pub book-plain : (b : AnyBook) → (bookOf b .lists ≡ b .lists) × (bookOf b .entries ≡ b .entries) × (bookOf b .free ≡ b .free)
+book-plain b = (refl, refl, refl)

@@ -109,7 +109,7 @@ pub fn push_front(
 }
 
 // The slot at an end.
-fn near_of(end: End, list: Entry) -> u16
+pub fn near_of(end: End, list: Entry) -> u16
     ensures { λ r. ⌜ r ≡ nearOf end list ⌝ }
 {
     match end {

@@ -196,6 +196,11 @@ module _ (wanted : ℕ) (links values : List ℕ) (es : List Entry) (free : Free
     unfolding poolFound
     sound-length b = rw (sound-null, ap (λ f. f .rule) (sound-sums .fault)) (sound-sums .found wanted b (omega arith))
 
+    -- a list that there is not has no slots
+    pub sound-beyond : length es ≤ wanted → poolFound wanted links values es free .length ≡ 0
+    unfolding poolFound
+    sound-beyond h = rw (sound-null, ap (λ f. f .rule) (sound-sums .fault)) (sound-sums .beyond (omega arith))
+
     pub sound-lacks : poolFound wanted links values es free .lacks ≡ lacks es (s .chains)
     unfolding poolFound
     sound-lacks = rw (sound-null, ap (λ f. f .rule) (sound-sums .fault)) (omega (arith, sound-sums .lacking))

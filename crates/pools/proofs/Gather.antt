@@ -48,6 +48,7 @@ pub record Sums (wanted lists list : ℕ) (met : List ℕ) (es : List Entry) (cs
   pub stuck : g .over ≢ lists → r .gathered .over ≡ g .over
   pub found : (l : ℕ) → l < length es → wanted ≡ list + l → r .gathered .length ≡ length (getD cs l [])
   pub passed : wanted < list → r .gathered .length ≡ g .length
+  pub beyond : list + length es ≤ wanted → r .gathered .length ≡ g .length
 
 -- ---- one list more
 
@@ -69,6 +70,7 @@ module _ (wanted lists list : ℕ) (met : List ℕ) (e : Entry) (es : List Entry
         stuck = λ o. S .stuck (rw (ne-eqb (g .over) lists o) o) ∙ rw (ne-eqb (g .over) lists o);
         found = found-is;
         passed = λ h. S .passed (omega arith) ∙ rw (ne-eqb list wanted (λ i. omega arith));
+        beyond = λ h. S .beyond (omega arith) ∙ rw (ne-eqb list wanted (λ i. omega arith));
       }
     where
       over-is : g .over ≡ lists → Dec (e .limit < length xs) → (r .gathered .over ≡ lists ↔ ((l : ℕ) → l < length (e ∷ es) → length (getD (xs ∷ cs) l []) ≤ entryAt (e ∷ es) l .limit))
@@ -128,6 +130,7 @@ no-lists wanted lists list links met g =
       stuck = λ o. refl;
       found = λ l b. absurd (not-suc-le-zero b);
       passed = λ h. refl;
+      beyond = λ h. refl;
     }
 
 module _ (wanted lists : ℕ) (links : List ℕ) where

@@ -2,3 +2,4 @@
 pub mod Sound
 pub mod Size
 pub mod Check
+pub mod Look

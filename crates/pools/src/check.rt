@@ -15,7 +15,7 @@ ghost use Rattle.slots.specs.Walk.{idlePath};
 ghost use Rattle.pools.specs.Size.{SizesFit};
 ghost use Rattle.pools.specs.Check.{fault, gatherOne, gatherFault, gatheredNone, round, gatherAll, nothingMet, faulty, nullSlotZero, lowestUnmet, idleFault, spareFault, idleFound, poolFound, checkFound, refusedBy, lookOf};
 
-// The first rule that is broken, with a list and a place, 0 where none applies. Rule 0 is no fault.
+// The first rule that is broken, with a list and a place, 0 where none applies. Rule 0 is no fault. No call hands it out yet.
 // 9 is L, shares and limits; 10 slot 0; 11 a live chain; 12 the idle chain; 13 a slot in no chain; 14 a free slot that is not wiped; 15 limits and shares.
 #[repr(C)]
 pub struct Fault {
@@ -43,7 +43,7 @@ pub struct Found {
     pub free: usize,
 }
 
-// 1 or 3, or else 0 and what the check found.
+// A number, and what the check found: nothing where the number is not 0. `look` gives 1, 3 or 0; a caller may refuse by more.
 pub struct Looked {
     pub refusal: Refusal,
     pub found: Found,

@@ -14,9 +14,9 @@ use Rattle.lists.specs.Model.{nearOf}
 use Rattle.lists.specs.Read.{countRead}
 use Rattle.pools.specs.Sound.{Shape, SoundBook}
 use Rattle.pools.specs.Size.{SizesFit, sizesFit}
-use Rattle.shares.specs.Numbers.{Test, firstThat}
+use Rattle.shares.specs.Numbers.{Test, firstThat, decided}
 use Rattle.pools.specs.Check.{checkFound, lookOf}
-use Rattle.shares.specs.Calls.{decided, placeTests, checkTests, listTests, onListOf}
+use Rattle.shares.specs.Calls.{readOwnTests, checkTests, listTests, onListOf}
 use Rattle.pools.proofs.Size.{sizes-fit}
 use Rattle.shares.proofs.Numbers.{Numbered, nil, cons, first-first, first-then, decided-refused, decided-done}
 use Rattle.pools.proofs.Found.{found-length, shorter}
@@ -39,7 +39,7 @@ module _ (wanted : ℕ) (links values : List ℕ) (b : AnyBook) where
 -- ---- once 1, 3 and 4 do not apply
 
 -- where 8 does not apply there is room
-pub placed : (many room at : ℕ) → firstThat (placeTests many room at) ≡ 0 → (at ≤ room) × (many ≤ room - at)
+pub placed : (many room at : ℕ) → firstThat (readOwnTests many room at) ≡ 0 → (at ≤ room) × (many ≤ room - at)
 placed many room at z = go (leb at room) (leb many (room - at)) refl refl
   where
     go : (x y : Bool) → leb at room ≡ x → leb many (room - at) ≡ y → (at ≤ room) × (many ≤ room - at)
@@ -92,7 +92,7 @@ module _ (links values : List ℕ) (b : AnyBook) (l : ℕ) where
   on-list-length n = let (s, S, below) = on-list-sound n in omega (arith, found-length S l below, shorter S l below)
 
   -- a read that is not refused counts fewer than 4,096 values
-  pub read-count : (end : End) (buffer : List ℕ) (at : ℕ) → onListOf links values b l .refusal .number ≡ 0 → firstThat (placeTests (checkFound l links values b .length) (length buffer) at) ≡ 0
+  pub read-count : (end : End) (buffer : List ℕ) (at : ℕ) → onListOf links values b l .refusal .number ≡ 0 → firstThat (readOwnTests (checkFound l links values b .length) (length buffer) at) ≡ 0
       → countRead links values (nearOf end (entryAt (b .entries) l)) buffer at < 4096
   read-count end buffer at n z =
       let (s, S, below) = on-list-sound n in

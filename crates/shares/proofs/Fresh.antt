@@ -9,8 +9,8 @@ use native.Mathlib.Decide.{ℕ-discrete, decLt}
 use native.Mathlib.Omega.{arith}
 use lib.ListN.{length, getD, take, replicate, length-replicate, List·getD-eq-default}
 use lib.Seq.{length-take-le, getD-take}
-use lib.Dec.{ltb, eqb}
-use borrow.Author.Tests.{eqb-true, ne-eqb, lt-ltb, le-ltb}
+use lib.Dec.{ltb}
+use borrow.Author.Tests.{ne-eqb, lt-ltb, le-ltb}
 use Rattle.books.specs.declared.Entry.{Entry}
 use Rattle.books.specs.Tabulate.{tabulate}
 use Rattle.books.proofs.Tabulate.{tabulate-length, tabulate-at}
@@ -26,11 +26,11 @@ use Rattle.chains.proofs.Count.{hit-same, hit-other}
 use Rattle.chains.proofs.Chain.{Chain, linked-iff}
 use Rattle.pools.specs.Sound.{Shape, joinedUp, everySlot, lacks, Sound, SoundBook}
 use Rattle.pools.specs.Size.{SizesFit, sizesFit}
-use Rattle.shares.specs.Numbers.{firstThat, Given}
+use Rattle.shares.specs.Numbers.{firstThat, Given, decided}
 use Rattle.lists.specs.Model.{newOf}
 use Rattle.shares.specs.Setup.{SetupRefused, SetupRules, SetupKeeps, addedUp, slotsFrom, setUp, freshLink, freshValue, freshEntry, freshEntries, freshBook, setupTests, setupConditions, setupOf}
 use Rattle.pools.proofs.Size.{sizes-fit}
-use Rattle.shares.proofs.Numbers.{Matches, given, refuted}
+use Rattle.shares.proofs.Numbers.{Matches, given, refuted, decided-number}
 use Rattle.shares.proofs.Numbers as N
 
 -- ---- the rules, of what the caller asks for
@@ -88,12 +88,7 @@ module _ (links values : List ℕ) (lists : ℕ) (shares limits : List ℕ) wher
 
   pub setup-number : setupOf links values lists shares limits .answer .refusal .number ≡ firstThat (setupTests links values lists shares limits)
   unfolding setupOf
-  setup-number = go (eqb (firstThat (setupTests links values lists shares limits)) 0) refl
-    where
-      go : (b : Bool) → eqb (firstThat (setupTests links values lists shares limits)) 0 ≡ b
-          → setupOf links values lists shares limits .answer .refusal .number ≡ firstThat (setupTests links values lists shares limits)
-      go true e = rw e (sym (eqb-true _ _ e))
-      go false e = rw e
+  setup-number = decided-number _ _ (λ (o : Outcome Answer). o .answer .refusal .number) (λ n. refl) refl (setupTests links values lists shares limits)
 
   -- the number is the first of 1 and 2 whose condition holds, and 0 where neither does
   pub setup-given : Given (setupConditions links values lists shares limits) (setupOf links values lists shares limits .answer .refusal .number)
@@ -229,7 +224,7 @@ module _ (links values : List ℕ) (lists : ℕ) (shares limits : List ℕ) wher
   -- the two ways that setup can go
   setup-way : ((SizesFit (length links) (length values) × BookRules (length links) (eight (freshBook lists shares limits))) × (r ≡ setUp links values lists shares limits))
       ⊎ ((r .answer .refusal .number ≢ 0) × SetupRefused links values r)
-  unfolding setupOf
+  unfolding setupOf decided
   setup-way = go (sizesFit (length links) (length values)) (keepsRules (length links) (eight (freshBook lists shares limits))) refl refl
     where
       go : (a b : Bool) → sizesFit (length links) (length values) ≡ a → keepsRules (length links) (eight (freshBook lists shares limits)) ≡ b

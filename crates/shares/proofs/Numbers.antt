@@ -7,9 +7,8 @@ use Prim.Native.Nat.{ℕ}
 use lib.Dec.{eqb}
 use borrow.Author.Tests.{eqb-true, eqb-false, ne-eqb}
 use Rattle.books.proofs.Tests.{not-both}
-use Rattle.shares.specs.Numbers.{Test, firstThat, Condition, Given}
+use Rattle.shares.specs.Numbers.{Test, firstThat, Condition, Given, decided}
 use Rattle.shares.specs.Numbers as N
-use Rattle.shares.specs.Calls.{decided}
 
 -- a test that says no exactly where a condition fails
 pub refuted : (b : Bool) {P : Type 0} → (b ≡ true ↔ P) → (not b ≡ true ↔ (P → ⊥))

@@ -15,8 +15,8 @@ use Rattle.books.specs.Outcome.{Outcome}
 use Rattle.lists.specs.declared.End.{End}
 use Rattle.shares.specs.declared.Length.{Length}
 use Rattle.pools.specs.Sound.{Shape, chainAt, lacks, SoundBook, Room}
-use Rattle.shares.specs.Numbers.{Test, firstThat}
-use Rattle.shares.specs.Calls.{decided, placeTests, Called, ReadLeft, foundOf, entryOf, roomTests, someTests, listTests, pushTests, popTests, readTests, notCalled, afterPush, afterPop, afterClear, lengthCall, pushCall, popCall, clearCall, readCall}
+use Rattle.shares.specs.Numbers.{Test, firstThat, decided}
+use Rattle.shares.specs.Calls.{readOwnTests, Called, ReadLeft, entryOf, foundOf, pushOwnTests, popOwnTests, listTests, pushTests, popTests, readTests, notCalled, afterPush, afterPop, afterClear, lengthCall, pushCall, popCall, clearCall, readCall}
 use Rattle.shares.specs.Done.{Refused, Pushes, Pops, Clears, Reads, ReadRefused}
 use Rattle.pools.proofs.Found.{entry-is, found-length, found-lacks, found-free, within}
 use Rattle.shares.proofs.Numbers.{decided-ind, first-first, first-then}
@@ -24,7 +24,7 @@ use Rattle.shares.proofs.Effects.{pushes, pops, clears, reads}
 use Rattle.shares.proofs.Found.{on-list-number, on-list-sound, placed, list-numbered}
 
 -- neither 6 nor 7, of a list that is within its limit
-roomy : (e : Entry) (many lacking free : ℕ) → many ≤ e .limit → firstThat (roomTests e many lacking free) ≡ 0 → (many < e .limit) × ((many < e .share) ⊎ (lacking < free))
+roomy : (e : Entry) (many lacking free : ℕ) → many ≤ e .limit → firstThat (pushOwnTests e many lacking free) ≡ 0 → (many < e .limit) × ((many < e .share) ⊎ (lacking < free))
 roomy e many lacking free w z = go (eqb many (e .limit)) (leb (e .share) many) (leb free lacking) refl refl refl
   where
     go : (x y u : Bool) → eqb many (e .limit) ≡ x → leb (e .share) many ≡ y → leb free lacking ≡ u → (many < e .limit) × ((many < e .share) ⊎ (lacking < free))
@@ -37,7 +37,7 @@ roomy e many lacking free w z = go (eqb many (e .limit)) (leb (e .share) many) (
     go false false u ex ey eu = let d : many ≢ e .limit = eqb-false _ _ ex in (omega arith, inl (leb-false _ _ ey))
 
 -- not 5
-filled : (many : ℕ) → firstThat (someTests many) ≡ 0 → 0 < many
+filled : (many : ℕ) → firstThat (popOwnTests many) ≡ 0 → 0 < many
 filled many z = go (eqb many 0) refl
   where
     go : (x : Bool) → eqb many 0 ≡ x → 0 < many
@@ -76,17 +76,17 @@ module _ (links values : List ℕ) (b : AnyBook) (l : ℕ) where
   -- ---- the pushes
 
   abbrev ownRoom : List Test
-  ownRoom = roomTests (entryOf links values b l) (foundOf links values b l .length) (foundOf links values b l .lacks) (foundOf links values b l .free)
+  ownRoom = pushOwnTests (entryOf b l) (foundOf links values b l .length) (foundOf links values b l .lacks) (foundOf links values b l .free)
 
   has-room : (s : Shape) → SoundBook links values b s → l < b .lists → firstThat ownRoom ≡ 0 → Room (take (b .lists) (b .entries)) s l
   has-room s S below y =
-      let (u, v) = roomy (entryOf links values b l) (foundOf links values b l .length) (foundOf links values b l .lacks) (foundOf links values b l .free) (omega (arith, found-length S l below, within S l below)) y in
+      let (u, v) = roomy (entryOf b l) (foundOf links values b l .length) (foundOf links values b l .lacks) (foundOf links values b l .free) (omega (arith, found-length S l below, within S l below)) y in
       record {
         under = omega (arith, found-length S l below, ap (λ (e : Entry). e .limit) (entry-is S l below));
         enough = left v;
       }
     where
-      left : (foundOf links values b l .length < entryOf links values b l .share) ⊎ (foundOf links values b l .lacks < foundOf links values b l .free)
+      left : (foundOf links values b l .length < entryOf b l .share) ⊎ (foundOf links values b l .lacks < foundOf links values b l .free)
           → (length (chainAt s l) < entryAt (take (b .lists) (b .entries)) l .share) ⊎ (lacks (take (b .lists) (b .entries)) (s .chains) < length (s .idle))
       left (inl k) = inl (omega (arith, found-length S l below, ap (λ (e : Entry). e .share) (entry-is S l below)))
       left (inr k) = inr (omega (arith, found-lacks S l, found-free S l))
@@ -115,7 +115,7 @@ module _ (links values : List ℕ) (b : AnyBook) (l : ℕ) where
     pop-done =
         decided-ind _ _ (λ (r : Outcome Called). r .answer .number ≡ 0 → (s : Shape) × SoundBook links values b s × Pops end links values b l s r) (popTests links values b l)
         (λ k z. absurd (k z))
-        (λ k z. let ((s, S, below), y) = past-list (someTests (foundOf links values b l .length)) k in
+        (λ k z. let ((s, S, below), y) = past-list (popOwnTests (foundOf links values b l .length)) k in
         (s, S, pops S l below end (omega (arith, found-length S l below, filled (foundOf links values b l .length) y))))
 
   -- ---- clear
@@ -147,6 +147,6 @@ module _ (links values : List ℕ) (b : AnyBook) (l : ℕ) where
     read-done =
         decided-ind _ _ (λ (r : ReadLeft). r .answer .refusal .number ≡ 0 → (s : Shape) × SoundBook links values b s × Reads end values l buffer at s r) (readTests links values b l (length buffer) at)
         (λ k z. absurd (k z))
-        (λ k z. let ((s, S, below), y) = past-list (placeTests (foundOf links values b l .length) (length buffer) at) k in
+        (λ k z. let ((s, S, below), y) = past-list (readOwnTests (foundOf links values b l .length) (length buffer) at) k in
         let (p, q) = placed (foundOf links values b l .length) (length buffer) at y in
         (s, S, reads S l below end buffer at (omega (arith, found-length S l below))))

@@ -22,7 +22,7 @@ use Rattle.shares.specs.declared.Read.{Read}
 use Rattle.pools.specs.declared.check.Found.{Found}
 use Rattle.pools.specs.declared.check.Looked.{Looked}
 use Rattle.shares.specs.Numbers.{Test, firstThat}
-use Rattle.shares.specs.Calls.{roomTests, someTests, placeTests, foundOf, entryOf, onListOf, readLeft, readOf, withList, asAnswer, asPopped, notCalled, lengthCall, pushCall, popCall, clearCall, readCall}
+use Rattle.shares.specs.Calls.{pushOwnTests, popOwnTests, readOwnTests, entryOf, foundOf, onListOf, readLeft, readOf, withList, asAnswer, asPopped, notCalled, lengthCall, pushCall, popCall, clearCall, readCall}
 use Rattle.shares.proofs.Found.{on-list-found, on-list-below, on-list-length, read-count, by-list, by-call, goes}
 
 -- the answer of a call that changes the book, and of a pop
@@ -36,13 +36,13 @@ popped number value book = record { given = record { refusal = record { number =
 module _ (links values : List ℕ) (b : AnyBook) (l : ℕ) (seen : Looked) (e : seen ≡ onListOf links values b l) where
   -- the tests of a push, a pop and a read of their own
   abbrev room : Found → ℕ → List Test
-  room f k = roomTests (entryAt (b .entries) k) (f .length) (f .lacks) (f .free)
+  room f k = pushOwnTests (entryAt (b .entries) k) (f .length) (f .lacks) (f .free)
 
   abbrev some : Found → List Test
-  some f = someTests (f .length)
+  some f = popOwnTests (f .length)
 
   abbrev place : List ℕ → ℕ → Found → List Test
-  place buffer at f = placeTests (f .length) (length buffer) at
+  place buffer at f = readOwnTests (f .length) (length buffer) at
 
   -- ---- 1, 3 or 4 applies
 
@@ -50,25 +50,25 @@ module _ (links values : List ℕ) (b : AnyBook) (l : ℕ) (seen : Looked) (e : 
     applies : onListOf links values b l .refusal .number ≢ 0
     applies = rw e at d
 
-    pub length-refused : _≡_ {A = Length} (record { refusal = seen .refusal; length = 0 }) (lengthCall links values b l)
+    pub length-stopped : _≡_ {A = Length} (record { refusal = seen .refusal; length = 0 }) (lengthCall links values b l)
     unfolding lengthCall
-    length-refused = rw e (sym (by-list links values b l [] _ _ applies))
+    length-stopped = rw e (sym (by-list links values b l [] _ _ applies))
 
-    pub clear-refused : outcome (answer (seen .refusal .number) (bookOf b)) links values ≡ asAnswer (clearCall links values b l)
+    pub clear-stopped : outcome (answer (seen .refusal .number) (bookOf b)) links values ≡ asAnswer (clearCall links values b l)
     unfolding clearCall
-    clear-refused = rw e (ap asAnswer (sym (by-list links values b l [] _ (notCalled links values b) applies)))
+    clear-stopped = rw e (ap asAnswer (sym (by-list links values b l [] _ (notCalled links values b) applies)))
 
-    pub push-refused : (end : End) (value : ℕ) → outcome (answer (seen .refusal .number) (bookOf b)) links values ≡ asAnswer (pushCall links values b l end value)
+    pub push-stopped : (end : End) (value : ℕ) → outcome (answer (seen .refusal .number) (bookOf b)) links values ≡ asAnswer (pushCall links values b l end value)
     unfolding pushCall
-    push-refused end value = rw e (ap asAnswer (sym (by-list links values b l (room (foundOf links values b l) l) _ (notCalled links values b) applies)))
+    push-stopped end value = rw e (ap asAnswer (sym (by-list links values b l (room (foundOf links values b l) l) _ (notCalled links values b) applies)))
 
-    pub pop-refused : (end : End) {r : Popped} → r ≡ popped (seen .refusal .number) 0 (bookOf b) → outcome r links values ≡ asPopped (popCall links values b l end)
+    pub pop-stopped : (end : End) {r : Popped} → r ≡ popped (seen .refusal .number) 0 (bookOf b) → outcome r links values ≡ asPopped (popCall links values b l end)
     unfolding popCall
-    pop-refused end p = rw (p, e) (ap asPopped (sym (by-list links values b l (some (foundOf links values b l)) _ (notCalled links values b) applies)))
+    pop-stopped end p = rw (p, e) (ap asPopped (sym (by-list links values b l (some (foundOf links values b l)) _ (notCalled links values b) applies)))
 
-    pub read-refused : (end : End) (buffer : List ℕ) (at : ℕ) {r : Read} → r ≡ readOf (seen .refusal .number) 0 → readLeft r buffer ≡ readCall links values b l end buffer at
+    pub read-stopped : (end : End) (buffer : List ℕ) (at : ℕ) {r : Read} → r ≡ readOf (seen .refusal .number) 0 → readLeft r buffer ≡ readCall links values b l end buffer at
     unfolding readCall
-    read-refused end buffer at p = rw (p, e) (sym (by-list links values b l (place buffer at (foundOf links values b l)) _ (λ n. readLeft (readOf n 0) buffer) applies))
+    read-stopped end buffer at p = rw (p, e) (sym (by-list links values b l (place buffer at (foundOf links values b l)) _ (λ n. readLeft (readOf n 0) buffer) applies))
 
   -- ---- none of them applies
 
@@ -87,16 +87,16 @@ module _ (links values : List ℕ) (b : AnyBook) (l : ℕ) (seen : Looked) (e : 
     pub short : seen .found .length < 4096
     short = omega (arith, ap (λ (f : Found). f .length) found, on-list-length links values b l passes)
 
-    pub length-done : _≡_ {A = Length} (record { refusal = seen .refusal; length = seen .found .length }) (lengthCall links values b l)
+    pub length-went : _≡_ {A = Length} (record { refusal = seen .refusal; length = seen .found .length }) (lengthCall links values b l)
     unfolding lengthCall
-    length-done = rw (z, found) (sym (goes links values b l [] _ _ passes refl))
+    length-went = rw (z, found) (sym (goes links values b l [] _ _ passes refl))
 
-    pub clear-done : {k : ℕ} {r : Cleared} {newLinks newValues : List ℕ} {after : Book} → k ≡ l
+    pub clear-went : {k : ℕ} {r : Cleared} {newLinks newValues : List ℕ} {after : Book} → k ≡ l
         → outcome r newLinks newValues ≡ clearOn (seen .found .length) links values (entryAt (b .entries) k) (b .free)
         → after ≡ bookOf (withList b k (r .entry) (r .free))
         → outcome (answer 0 after) newLinks newValues ≡ asAnswer (clearCall links values b l)
     unfolding clearCall
-    clear-done p q h =
+    clear-went p q h =
         rw (h, p)
         (ap (λ (r : Outcome Cleared). outcome (answer 0 (bookOf (withList b l (r .answer .entry) (r .answer .free)))) (r .links) (r .values)) (rw (p, found) at q)
         ∙ ap asAnswer (sym (goes links values b l [] _ (notCalled links values b) passes refl)))
@@ -110,12 +110,12 @@ module _ (links values : List ℕ) (b : AnyBook) (l : ℕ) (seen : Looked) (e : 
       unfolding pushCall
       push-full d end value = rw own-room (ap asAnswer (sym (by-call links values b l (room (foundOf links values b l) l) _ (notCalled links values b) passes (rw own-room at d))))
 
-      pub push-done : number ≡ 0 → (end : End) (value : ℕ) {r : Pushed} {newLinks newValues : List ℕ} {after : Book}
+      pub push-went : number ≡ 0 → (end : End) (value : ℕ) {r : Pushed} {newLinks newValues : List ℕ} {after : Book}
           → outcome r newLinks newValues ≡ pushOf end links values (entryAt (b .entries) k) (b .free) value
           → after ≡ bookOf (withList b k (r .entry) (r .free))
           → outcome (answer 0 after) newLinks newValues ≡ asAnswer (pushCall links values b l end value)
       unfolding pushCall
-      push-done n end value q h =
+      push-went n end value q h =
           rw (h, p)
           (ap (λ (r : Outcome Pushed). outcome (answer 0 (bookOf (withList b l (r .answer .entry) (r .answer .free)))) (r .links) (r .values)) (rw p at q)
           ∙ ap asAnswer (sym (goes links values b l (room (foundOf links values b l) l) _ (notCalled links values b) passes (sym own-room ∙ n))))
@@ -129,12 +129,12 @@ module _ (links values : List ℕ) (b : AnyBook) (l : ℕ) (seen : Looked) (e : 
       unfolding popCall
       pop-empty d end h = rw (h, own-some) (ap asPopped (sym (by-call links values b l (some (foundOf links values b l)) _ (notCalled links values b) passes (rw own-some at d))))
 
-      pub pop-done : number ≡ 0 → (end : End) {k : ℕ} {r : L.Popped} {newLinks newValues : List ℕ} {after : Book} → k ≡ l
+      pub pop-went : number ≡ 0 → (end : End) {k : ℕ} {r : L.Popped} {newLinks newValues : List ℕ} {after : Book} → k ≡ l
           → outcome r newLinks newValues ≡ popOf end links values (entryAt (b .entries) k) (b .free)
           → after ≡ bookOf (withList b k (r .entry) (r .free))
           → outcome (popped 0 (r .value) after) newLinks newValues ≡ asPopped (popCall links values b l end)
       unfolding popCall
-      pop-done n end p q h =
+      pop-went n end p q h =
           rw (h, p)
           (ap (λ (r : Outcome L.Popped). outcome (popped 0 (r .answer .value) (bookOf (withList b l (r .answer .entry) (r .answer .free)))) (r .links) (r .values)) (rw p at q)
           ∙ ap asPopped (sym (goes links values b l (some (foundOf links values b l)) _ (notCalled links values b) passes (sym own-some ∙ n))))
@@ -149,14 +149,14 @@ module _ (links values : List ℕ) (b : AnyBook) (l : ℕ) (seen : Looked) (e : 
       read-full d h = rw (h, own-place) (sym (by-call links values b l (place buffer at (foundOf links values b l)) _ (λ n. readLeft (readOf n 0) buffer) passes (rw own-place at d)))
 
       module _ (n : number ≡ 0) (k start : ℕ) (p : k ≡ l) (s : start ≡ nearOf end (entryAt (b .entries) k)) where
-        from : start ≡ nearOf end (entryOf links values b l)
+        from : start ≡ nearOf end (entryOf b l)
         from = rw p at s
 
         pub read-fits : {count : ℕ} → count ≡ countRead links values start buffer at → count < 65536
         read-fits h = omega (arith, h, ap (λ (x : ℕ). countRead links values x buffer at) from, read-count links values b l end buffer at passes (sym own-place ∙ n))
 
-        pub read-done : {count : ℕ} {left : List ℕ} → (count ≡ countRead links values start buffer at) × (left ≡ bufferAfter links values start buffer at)
+        pub read-went : {count : ℕ} {left : List ℕ} → (count ≡ countRead links values start buffer at) × (left ≡ bufferAfter links values start buffer at)
             → readLeft (readOf 0 count) left ≡ readCall links values b l end buffer at
         unfolding readCall
-        read-done (h, g) =
+        read-went (h, g) =
             rw (h, g, from) (sym (goes links values b l (place buffer at (foundOf links values b l)) _ (λ n. readLeft (readOf n 0) buffer) passes (sym own-place ∙ n)))

@@ -1,4 +1,4 @@
--- The nine calls on a pool that was set up: which number each gives, and what it leaves, over a book with any number of places.
+-- The nine calls other than setup: which number each gives, and what it leaves, on any slices and any book, with any number of places.
 use mathlib.Core.Bool.{not, cond, _&&_}
 use mathlib.Core.List.{List, [], _∷_, _++_}
 use mathlib.Core.Path.{_≡_}
@@ -23,29 +23,29 @@ use Rattle.pools.specs.declared.check.Found.{Found}
 use Rattle.pools.specs.declared.check.Looked.{Looked}
 use Rattle.pools.specs.Size.{SizesFit, sizesFit}
 use Rattle.pools.specs.Sound.{Shape, chainAt, lacks, SoundBook}
-use Rattle.shares.specs.Numbers.{Test, test, firstThat, Condition, condition}
+use Rattle.shares.specs.Numbers.{Test, test, firstThat, decided, Condition, condition}
 use Rattle.pools.specs.Check.{checkFound, refusedBy, lookOf}
 
 -- ---- which number
 
--- where a test applies, its number decides; else the call is done
-unfoldable pub decided : {A : Type 0} → List Test → A → (ℕ → A) → A
-decided ts done refused = cond (eqb (firstThat ts) 0) done (refused (firstThat ts))
+-- list l's entry
+abbrev pub entryOf : AnyBook → ℕ → Entry
+entryOf b l = entryAt (b .entries) l
 
--- 6, and 7: of a list that has `many` slots, where the check found `lacking` and `free`
-abbrev pub roomTests : Entry → ℕ → ℕ → ℕ → List Test
-roomTests e many lacking free =
+-- a push's own tests, 6 and 7: of a list that has `many` slots, where the check found `lacking` and `free`
+abbrev pub pushOwnTests : Entry → ℕ → ℕ → ℕ → List Test
+pushOwnTests e many lacking free =
     test 6 (eqb many (e .limit))
     ∷ test 7 (ltb many (e .limit) && (leb (e .share) many && leb free lacking))
     ∷ []
 
--- 5
-abbrev pub someTests : ℕ → List Test
-someTests many = test 5 (eqb many 0) ∷ []
+-- a pop's own, 5
+abbrev pub popOwnTests : ℕ → List Test
+popOwnTests many = test 5 (eqb many 0) ∷ []
 
--- 8: of a buffer with `room` places
-abbrev pub placeTests : ℕ → ℕ → ℕ → List Test
-placeTests many room at = test 8 (not (leb at room && leb many (room - at))) ∷ []
+-- a read's own, 8: of a buffer with `room` places
+abbrev pub readOwnTests : ℕ → ℕ → ℕ → List Test
+readOwnTests many room at = test 8 (not (leb at room && leb many (room - at))) ∷ []
 
 module _ (links values : List ℕ) (b : AnyBook) where
   -- the sound shape of the pool, and a fact of it
@@ -63,9 +63,6 @@ module _ (links values : List ℕ) (b : AnyBook) where
     abbrev pub foundOf : Found
     foundOf = checkFound l links values b
 
-    abbrev pub entryOf : Entry
-    entryOf = entryAt (b .entries) l
-
     -- then 4, which every call on a list tests
     abbrev pub listTests : List Test
     listTests = checkTests l ++ test 4 (leb (b .lists) l) ∷ []
@@ -74,25 +71,25 @@ module _ (links values : List ℕ) (b : AnyBook) where
     listConditions = checkConditions ++ condition 4 (b .lists ≤ l) ∷ []
 
     abbrev pub pushTests : List Test
-    pushTests = listTests ++ roomTests entryOf (foundOf .length) (foundOf .lacks) (foundOf .free)
+    pushTests = listTests ++ pushOwnTests (entryOf b l) (foundOf .length) (foundOf .lacks) (foundOf .free)
 
     -- 01: 6 "length equals limit"; 7 "under the limit, length at least the share, and free slots no more than the sum of lacks"
     abbrev pub pushConditions : List Condition
     pushConditions =
         listConditions
-        ++ condition 6 (OfShape (λ s. length (chainAt s l) ≡ entryOf .limit))
-        ∷ condition 7 (OfShape (λ s. (length (chainAt s l) < entryOf .limit) × (entryOf .share ≤ length (chainAt s l)) × (length (s .idle) ≤ lacks (take (b .lists) (b .entries)) (s .chains))))
+        ++ condition 6 (OfShape (λ s. length (chainAt s l) ≡ entryOf b l .limit))
+        ∷ condition 7 (OfShape (λ s. (length (chainAt s l) < entryOf b l .limit) × (entryOf b l .share ≤ length (chainAt s l)) × (length (s .idle) ≤ lacks (take (b .lists) (b .entries)) (s .chains))))
         ∷ []
 
     abbrev pub popTests : List Test
-    popTests = listTests ++ someTests (foundOf .length)
+    popTests = listTests ++ popOwnTests (foundOf .length)
 
     -- 01: 5 "the list is empty"
     abbrev pub popConditions : List Condition
     popConditions = listConditions ++ condition 5 (OfShape (λ s. chainAt s l ≡ [])) ∷ []
 
     abbrev pub readTests : ℕ → ℕ → List Test
-    readTests room at = listTests ++ placeTests (foundOf .length) room at
+    readTests room at = listTests ++ readOwnTests (foundOf .length) room at
 
     -- 01: 8 "`at` past the buffer's end, or fewer than length places from `at`"
     abbrev pub readConditions : ℕ → ℕ → List Condition
@@ -146,24 +143,24 @@ module _ (links values : List ℕ) (b : AnyBook) where
     -- what each call leaves where it is done: the step of `lists`, and list l's entry and the idle chain put back into the book
     abbrev pub afterPush : End → ℕ → Outcome Called
     afterPush end value =
-        let r = pushOf end links values (entryOf links values b l) (b .free) value in
+        let r = pushOf end links values (entryOf b l) (b .free) value in
         outcome (called 0 0 (withList b l (r .answer .entry) (r .answer .free))) (r .links) (r .values)
 
     abbrev pub afterPop : End → Outcome Called
     afterPop end =
-        let r = popOf end links values (entryOf links values b l) (b .free) in
+        let r = popOf end links values (entryOf b l) (b .free) in
         outcome (called 0 (r .answer .value) (withList b l (r .answer .entry) (r .answer .free))) (r .links) (r .values)
 
     -- `many` is how many slots the list has
     abbrev pub afterClear : ℕ → Outcome Called
     afterClear many =
-        let r = clearOn many links values (entryOf links values b l) (b .free) in
+        let r = clearOn many links values (entryOf b l) (b .free) in
         outcome (called 0 0 (withList b l (r .answer .entry) (r .answer .free))) (r .links) (r .values)
 
     -- forward is read from the front, backward from the back
     abbrev pub afterRead : End → List ℕ → ℕ → ReadLeft
     afterRead end buffer at =
-        let start = nearOf end (entryOf links values b l) in
+        let start = nearOf end (entryOf b l) in
         readLeft (readOf 0 (countRead links values start buffer at)) (bufferAfter links values start buffer at)
 
 -- ---- the nine calls

@@ -2,5 +2,10 @@
 pub mod Numbers
 pub mod Setup
 pub mod Calls
+pub mod Ten
 pub mod Done
 pub mod Rows
+pub mod View
+pub mod Trace
+pub mod Cases
+pub mod Reach

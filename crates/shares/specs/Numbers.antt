@@ -2,6 +2,7 @@
 use mathlib.Core.Bool.{Bool, cond}
 use mathlib.Core.List.{List, [], _∷_}
 use Prim.Native.Nat.{ℕ}
+use lib.Dec.{eqb}
 
 -- a number and the test that runs
 pub record Test : Type 0 where
@@ -15,6 +16,10 @@ test number applies = record { number = number; applies = applies }
 abbrev pub firstThat : List Test → ℕ
 firstThat [] = 0
 firstThat (t ∷ ts) = cond (t .applies) (t .number) (firstThat ts)
+
+-- where a test applies, its number decides; else the call is done
+unfoldable pub decided : {A : Type 0} → List Test → A → (ℕ → A) → A
+decided ts done refused = cond (eqb (firstThat ts) 0) done (refused (firstThat ts))
 
 -- a number and 01's "given exactly when"
 pub record Condition : Type 1 where

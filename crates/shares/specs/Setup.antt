@@ -14,7 +14,7 @@ use Rattle.books.specs.Outcome.{Outcome, outcome}
 use Rattle.lists.specs.Model.{newOf}
 use Rattle.shares.specs.declared.Answer.{Answer}
 use Rattle.pools.specs.Size.{SizesFit, sizesFit}
-use Rattle.shares.specs.Numbers.{Test, test, firstThat, Condition, condition}
+use Rattle.shares.specs.Numbers.{Test, test, decided, Condition, condition}
 
 -- 01: "links 1 to 2, 2 to 3, and so on, the last 0"
 unfoldable pub freshLink : ℕ → ℕ → ℕ
@@ -82,4 +82,4 @@ module _ (links values : List ℕ) (lists : ℕ) (shares limits : List ℕ) wher
   setUp = outcome (answered 0 (freshBook lists shares limits)) (tabulate (length links) (freshLink (length links))) (tabulate (length values) freshValue)
 
   unfoldable pub setupOf : Outcome Answer
-  setupOf = cond (eqb (firstThat setupTests) 0) setUp (outcome (answered (firstThat setupTests) zeroBook) links values)
+  setupOf = decided setupTests setUp (λ n. outcome (answered n zeroBook) links values)

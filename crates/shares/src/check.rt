@@ -2,12 +2,11 @@
 use books::Book;
 use books::Refusal;
 ghost use mathlib.Core.Path.{_≡_};
-ghost use Rattle.books.specs.Book.{eight};
-ghost use Rattle.shares.specs.Calls.{checkCall};
+ghost use Rattle.shares.specs.Ten.{checkOf};
 
 // Is the pool sound? 0 where it is; 1 where the sizes do not fit, 3 where it is not sound. Neither the pool nor the book changes.
 pub fn check(links: &[u16], values: &[u64], book: Book) -> Refusal
-    ensures { λ r. ⌜ r ≡ checkCall (now (links .entry)) (now (values .entry)) (eight book) ⌝ }
+    ensures { λ r. ⌜ r ≡ checkOf (now (links .entry)) (now (values .entry)) book ⌝ }
 {
     let seen = pools::check::look(links, values, book, 0);
     seen.refusal

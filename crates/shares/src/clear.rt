@@ -3,13 +3,12 @@ use crate::Answer;
 use books::Book;
 use books::Refusal;
 ghost use mathlib.Core.Path.{_≡_};
-ghost use Rattle.books.specs.Book.{eight};
 ghost use Rattle.books.specs.Outcome.{outcome};
-ghost use Rattle.shares.specs.Calls.{asAnswer, clearCall};
+ghost use Rattle.shares.specs.Ten.{clearOf};
 
 // Refused by 1, 3 or 4; the book comes back as it went in then, and neither slice changes. An empty list is cleared too.
 pub fn clear(links: &mut [u16], values: &mut [u64], book: Book, list: u16) -> Answer
-    ensures { λ r. ⌜ outcome r (now (links .exit)) (now (values .exit)) ≡ asAnswer (clearCall (now (links .entry)) (now (values .entry)) (eight book) list) ⌝ }
+    ensures { λ r. ⌜ outcome r (now (links .exit)) (now (values .exit)) ≡ clearOf (now (links .entry)) (now (values .entry)) book list ⌝ }
 {
     let seen = crate::refusals::on_list(links, values, book, list);
     let refusal = seen.refusal;

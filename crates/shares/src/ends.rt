@@ -12,10 +12,11 @@ ghost use Rattle.books.specs.Book.{eight, bookOf};
 ghost use Rattle.books.specs.Outcome.{outcome};
 ghost use Rattle.lists.specs.Model.{pushOf, popOf};
 ghost use Rattle.shares.specs.Calls.{withList, asAnswer, asPopped, pushCall, popCall};
+ghost use Rattle.shares.specs.Ten.{pushBackOf, pushFrontOf, popBackOf, popFrontOf};
 
 // Refused by 1, 3, 4, 6 or 7; the book comes back as it went in then, and neither slice changes.
 pub fn push_back(links: &mut [u16], values: &mut [u64], book: Book, list: u16, value: u64) -> Answer
-    ensures { λ r. ⌜ outcome r (now (links .exit)) (now (values .exit)) ≡ asAnswer (pushCall (now (links .entry)) (now (values .entry)) (eight book) list End.Back value) ⌝ }
+    ensures { λ r. ⌜ outcome r (now (links .exit)) (now (values .exit)) ≡ pushBackOf (now (links .entry)) (now (values .entry)) book list value ⌝ }
 {
     push(links, values, End::Back, book, list, value)
 }
@@ -28,21 +29,21 @@ pub fn push_front(
     list: u16,
     value: u64,
 ) -> Answer
-    ensures { λ r. ⌜ outcome r (now (links .exit)) (now (values .exit)) ≡ asAnswer (pushCall (now (links .entry)) (now (values .entry)) (eight book) list End.Front value) ⌝ }
+    ensures { λ r. ⌜ outcome r (now (links .exit)) (now (values .exit)) ≡ pushFrontOf (now (links .entry)) (now (values .entry)) book list value ⌝ }
 {
     push(links, values, End::Front, book, list, value)
 }
 
 // Refused by 1, 3, 4 or 5; value 0 and the book as it went in come back then, and neither slice changes.
 pub fn pop_back(links: &mut [u16], values: &mut [u64], book: Book, list: u16) -> Popped
-    ensures { λ r. ⌜ outcome r (now (links .exit)) (now (values .exit)) ≡ asPopped (popCall (now (links .entry)) (now (values .entry)) (eight book) list End.Back) ⌝ }
+    ensures { λ r. ⌜ outcome r (now (links .exit)) (now (values .exit)) ≡ popBackOf (now (links .entry)) (now (values .entry)) book list ⌝ }
 {
     pop(links, values, End::Back, book, list)
 }
 
 // Refused as `pop_back` is.
 pub fn pop_front(links: &mut [u16], values: &mut [u64], book: Book, list: u16) -> Popped
-    ensures { λ r. ⌜ outcome r (now (links .exit)) (now (values .exit)) ≡ asPopped (popCall (now (links .entry)) (now (values .entry)) (eight book) list End.Front) ⌝ }
+    ensures { λ r. ⌜ outcome r (now (links .exit)) (now (values .exit)) ≡ popFrontOf (now (links .entry)) (now (values .entry)) book list ⌝ }
 {
     pop(links, values, End::Front, book, list)
 }
@@ -65,7 +66,7 @@ fn push(
     let found = seen.found;
     let k = books::wide(list);
     let entry = book.entries[k];
-    let number = crate::refusals::room(entry, found.length, found.lacks, found.free);
+    let number = crate::refusals::push_number(entry, found.length, found.lacks, found.free);
     if number != 0 {
         return Answer {
             refusal: Refusal { number },
@@ -89,7 +90,7 @@ fn pop(links: &mut [u16], values: &mut [u64], end: End, book: Book, list: u16) -
         return refused_pop(refusal.number, book);
     }
     let found = seen.found;
-    let number = crate::refusals::some(found.length);
+    let number = crate::refusals::pop_number(found.length);
     if number != 0 {
         return refused_pop(number, book);
     }
@@ -119,7 +120,7 @@ fn refused_pop(number: u16, book: Book) -> Popped
 }
 
 // The book with another entry for one list, and another idle chain.
-pub fn with_list(book: Book, k: usize, entry: Entry, free: Free) -> Book
+pub(crate) fn with_list(book: Book, k: usize, entry: Entry, free: Free) -> Book
     ensures { λ r. ⌜ r ≡ bookOf (withList (eight book) k entry free) ⌝ }
 {
     let mut out = book;

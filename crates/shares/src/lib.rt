@@ -1,4 +1,4 @@
-// Layers 3 and 4: the pool and its book as a whole. Setup makes a sound pool, and nine calls work on it.
+// Layer 4: the ten calls. Setup makes a sound pool, and nine calls work on it.
 use books::Book;
 use books::Refusal;
 

@@ -2,17 +2,16 @@
 use crate::Length;
 use crate::Read;
 use books::Book;
-use books::Entry;
 use books::Refusal;
 use lists::End;
 ghost use mathlib.Core.Path.{_≡_};
 ghost use Rattle.books.specs.Book.{eight};
-ghost use Rattle.lists.specs.Model.{nearOf};
-ghost use Rattle.shares.specs.Calls.{readLeft, readOf, lengthCall, readCall};
+ghost use Rattle.shares.specs.Calls.{readLeft, readOf, readCall};
+ghost use Rattle.shares.specs.Ten.{lengthOf, readForwardOf, readBackwardOf};
 
 // How many slots a list has. Refused by 1, 3 or 4, with length 0.
 pub fn length(links: &[u16], values: &[u64], book: Book, list: u16) -> Length
-    ensures { λ r. ⌜ r ≡ lengthCall (now (links .entry)) (now (values .entry)) (eight book) list ⌝ }
+    ensures { λ r. ⌜ r ≡ lengthOf (now (links .entry)) (now (values .entry)) book list ⌝ }
 {
     let seen = crate::refusals::on_list(links, values, book, list);
     let refusal = seen.refusal;
@@ -20,9 +19,10 @@ pub fn length(links: &[u16], values: &[u64], book: Book, list: u16) -> Length
     if refusal.number != 0 {
         return Length { refusal, length: 0 };
     }
+    let many = found.length as u16;
     Length {
         refusal,
-        length: found.length as u16,
+        length: many,
     }
 }
 
@@ -35,7 +35,7 @@ pub fn read_forward(
     buffer: &mut [u64],
     at: usize,
 ) -> Read
-    ensures { λ r. ⌜ readLeft r (now (buffer .exit)) ≡ readCall (now (links .entry)) (now (values .entry)) (eight book) list End.Front (now (buffer .entry)) at ⌝ }
+    ensures { λ r. ⌜ readLeft r (now (buffer .exit)) ≡ readForwardOf (now (links .entry)) (now (values .entry)) book list (now (buffer .entry)) at ⌝ }
 {
     read(links, values, End::Front, book, list, buffer, at)
 }
@@ -49,7 +49,7 @@ pub fn read_backward(
     buffer: &mut [u64],
     at: usize,
 ) -> Read
-    ensures { λ r. ⌜ readLeft r (now (buffer .exit)) ≡ readCall (now (links .entry)) (now (values .entry)) (eight book) list End.Back (now (buffer .entry)) at ⌝ }
+    ensures { λ r. ⌜ readLeft r (now (buffer .exit)) ≡ readBackwardOf (now (links .entry)) (now (values .entry)) book list (now (buffer .entry)) at ⌝ }
 {
     read(links, values, End::Back, book, list, buffer, at)
 }
@@ -71,16 +71,17 @@ fn read(
         return refused(refusal.number);
     }
     let found = seen.found;
-    let number = crate::refusals::place(found.length, buffer.len(), at);
+    let number = crate::refusals::read_number(found.length, buffer.len(), at);
     if number != 0 {
         return refused(number);
     }
     let k = books::wide(list);
     let entry = book.entries[k];
-    let count = lists::reads::read(links, values, near_of(end, entry), buffer, at);
+    let count = lists::reads::read(links, values, lists::near_of(end, entry), buffer, at);
+    let many = count as u16;
     Read {
         refusal: Refusal { number: 0 },
-        count: count as u16,
+        count: many,
     }
 }
 
@@ -90,15 +91,5 @@ fn refused(number: u16) -> Read
     Read {
         refusal: Refusal { number },
         count: 0,
-    }
-}
-
-// The slot at an end of a list.
-fn near_of(end: End, list: Entry) -> u16
-    ensures { λ r. ⌜ r ≡ nearOf end list ⌝ }
-{
-    match end {
-        End::Front => list.head,
-        End::Back => list.tail,
     }
 }

@@ -5,10 +5,10 @@ use pools::check::Looked;
 ghost use mathlib.Core.Path.{_≡_};
 ghost use Rattle.books.specs.Book.{eight};
 ghost use Rattle.shares.specs.Numbers.{firstThat};
-ghost use Rattle.shares.specs.Calls.{roomTests, someTests, placeTests, onListOf};
+ghost use Rattle.shares.specs.Calls.{pushOwnTests, popOwnTests, readOwnTests, onListOf};
 
 // 1, 3 and 4, which every call on a list tests; else 0, and what the check found.
-pub fn on_list(links: &[u16], values: &[u64], book: Book, list: u16) -> Looked
+pub(crate) fn on_list(links: &[u16], values: &[u64], book: Book, list: u16) -> Looked
     ensures { λ r. ⌜ r ≡ onListOf (now (links .entry)) (now (values .entry)) (eight book) list ⌝ }
 {
     let seen = pools::check::look(links, values, book, list);
@@ -22,8 +22,8 @@ pub fn on_list(links: &[u16], values: &[u64], book: Book, list: u16) -> Looked
 }
 
 // 6 or 7 for a push on a list that has `many` slots; else 0.
-pub fn room(list: Entry, many: usize, lacks: usize, free: usize) -> u16
-    ensures { λ r. ⌜ r ≡ firstThat (roomTests list many lacks free) ⌝ }
+pub(crate) fn push_number(list: Entry, many: usize, lacks: usize, free: usize) -> u16
+    ensures { λ r. ⌜ r ≡ firstThat (pushOwnTests list many lacks free) ⌝ }
 {
     let limit = books::wide(list.limit);
     let share = books::wide(list.share);
@@ -41,8 +41,8 @@ pub fn room(list: Entry, many: usize, lacks: usize, free: usize) -> u16
 }
 
 // 5 for a pop on a list that has `many` slots; else 0.
-pub fn some(many: usize) -> u16
-    ensures { λ r. ⌜ r ≡ firstThat (someTests many) ⌝ }
+pub(crate) fn pop_number(many: usize) -> u16
+    ensures { λ r. ⌜ r ≡ firstThat (popOwnTests many) ⌝ }
 {
     if many == 0 {
         return 5;
@@ -51,8 +51,8 @@ pub fn some(many: usize) -> u16
 }
 
 // 8 for a read of `many` values into a buffer of `places` places from `at` on; else 0. No sum is made that could wrap.
-pub fn place(many: usize, places: usize, at: usize) -> u16
-    ensures { λ r. ⌜ r ≡ firstThat (placeTests many places at) ⌝ }
+pub(crate) fn read_number(many: usize, places: usize, at: usize) -> u16
+    ensures { λ r. ⌜ r ≡ firstThat (readOwnTests many places at) ⌝ }
 {
     if at <= places {
         if many <= places - at {

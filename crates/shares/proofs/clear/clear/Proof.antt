@@ -1,11 +1,11 @@
 -- `shares::clear::clear`: what `on_list` promises, by the test of its number, and what the clear of the list leaves.
 use borrow.Author.Needs.{needs}
-use Rattle.shares.proofs.Reached.{clear-refused, inside, clear-done}
+use Rattle.shares.proofs.Reached.{clear-stopped, inside, clear-went}
 use Rattle.shares.proofs.clear.clear.Statement.{statement}
 use Rattle.shares.proofs.clear.clear.Tie as tie
 
 returns : tie.Need-returns
-returns c = clear-refused _ _ _ _ _ (c .before .before .before .on-list .ensures) (c .if1 .taken)
+returns c = clear-stopped _ _ _ _ _ (c .before .before .before .on-list .ensures) (c .if1 .taken)
 
 element-copy-out-entry : tie.Need-element-copy-out-entry
 element-copy-out-entry c = inside _ _ _ _ _ (c .before .before .before .before .before .on-list .ensures) (c .before .before .if1 .left) (c .wide .ensures .0)
@@ -13,7 +13,7 @@ element-copy-out-entry c = inside _ _ _ _ _ (c .before .before .before .before .
 returns-2 : tie.Need-returns-2
 returns-2 c =
     let at = c .before .before .before .before .before .before .before .before .before .before in
-    clear-done _ _ _ _ _ (at .before .before .before .before .before .on-list .ensures) (at .before .before .if1 .left)
+    clear-went _ _ _ _ _ (at .before .before .before .before .before .on-list .ensures) (at .before .before .if1 .left)
     (at .wide .ensures .0)
     (c .before .before .before .before .before .clear .ensures)
     (c .with-list .ensures)

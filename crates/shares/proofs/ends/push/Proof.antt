@@ -1,11 +1,11 @@
--- `shares::ends::push`: what `on_list` and `room` promise, by the tests of their numbers, and what the push on the list leaves.
+-- `shares::ends::push`: what `on_list` and `push_number` promise, by the tests of their numbers, and what the push on the list leaves.
 use borrow.Author.Needs.{needs}
-use Rattle.shares.proofs.Reached.{push-refused, inside, push-full, push-done}
+use Rattle.shares.proofs.Reached.{push-stopped, inside, push-full, push-went}
 use Rattle.shares.proofs.ends.push.Statement.{statement}
 use Rattle.shares.proofs.ends.push.Tie as tie
 
 returns : tie.Need-returns
-returns c = push-refused _ _ _ _ _ (c .before .before .before .on-list .ensures) (c .if1 .taken) _ _
+returns c = push-stopped _ _ _ _ _ (c .before .before .before .on-list .ensures) (c .if1 .taken) _ _
 
 element-copy-out-entry : tie.Need-element-copy-out-entry
 element-copy-out-entry c = inside _ _ _ _ _ (c .before .before .before .before .before .on-list .ensures) (c .before .before .if1 .left) (c .wide .ensures .0)
@@ -13,15 +13,15 @@ element-copy-out-entry c = inside _ _ _ _ _ (c .before .before .before .before .
 returns-2 : tie.Need-returns-2
 returns-2 c =
     let at = c .before .before .before in
-    push-full _ _ _ _ _ (at .before .before .before .before .before .on-list .ensures) (at .before .before .if1 .left) _ (at .wide .ensures .0) _ (c .before .room .ensures) (c .if2 .taken) _ _
+    push-full _ _ _ _ _ (at .before .before .before .before .before .on-list .ensures) (at .before .before .if1 .left) _ (at .wide .ensures .0) _ (c .before .push-number .ensures) (c .if2 .taken) _ _
 
 returns-3 : tie.Need-returns-3
 returns-3 c =
     let gone = c .before .before .before .before .before in
     let asked = gone .before .before .before .before .before in
     let at = asked .before .before in
-    push-done _ _ _ _ _ (at .before .before .before .before .before .on-list .ensures) (at .before .before .if1 .left) _ (at .wide .ensures .0) _
-    (asked .room .ensures)
+    push-went _ _ _ _ _ (at .before .before .before .before .before .on-list .ensures) (at .before .before .if1 .left) _ (at .wide .ensures .0) _
+    (asked .push-number .ensures)
     (gone .before .before .before .before .if2 .left)
     _
     _

@@ -1,19 +1,19 @@
--- `shares::reads::read`: what `on_list` and `place` promise, by the tests of their numbers, and what the read of the list leaves.
+-- `shares::reads::read`: what `on_list` and `read_number` promise, by the tests of their numbers, and what the read of the list leaves.
 use Prim.Native.Nat.{_<_}
 use native.Mathlib.Omega.{arith}
 use denote.Ref.{now}
 use borrow.Author.Needs.{needs}
-use Rattle.shares.proofs.Reached.{read-refused, inside, read-full, read-fits, read-done}
+use Rattle.shares.proofs.Reached.{read-stopped, inside, read-full, read-fits, read-went}
 use Rattle.shares.proofs.reads.read.Statement.{statement}
 use Rattle.shares.proofs.reads.read.Tie as tie
 
 returns : tie.Need-returns
-returns c = read-refused _ _ _ _ _ (c .before .before .before .before .on-list .ensures) (c .before .if1 .taken) _ _ _ (c .refused .ensures)
+returns c = read-stopped _ _ _ _ _ (c .before .before .before .before .on-list .ensures) (c .before .if1 .taken) _ _ _ (c .refused .ensures)
 
 returns-2 : tie.Need-returns-2
 returns-2 c =
     let at = c .before .before in
-    read-full _ _ _ _ _ (at .before .before .before .before .before .on-list .ensures) (at .before .before .if1 .left) _ _ _ _ (at .place .ensures) (c .before .if2 .taken) (c .refused2 .ensures)
+    read-full _ _ _ _ _ (at .before .before .before .before .before .on-list .ensures) (at .before .before .if1 .left) _ _ _ _ (at .read-number .ensures) (c .before .if2 .taken) (c .refused2 .ensures)
 
 element-copy-out-entry : tie.Need-element-copy-out-entry
 element-copy-out-entry c = inside _ _ _ _ _ (c .before .before .before .before .before .before .before .on-list .ensures) (c .before .before .before .before .if1 .left) (c .wide .ensures .0)
@@ -25,7 +25,7 @@ counted c =
     let at = near .before .before .before .before in
     let a = at .before .before .before .before .before .before .before .before .before .args in
     read-fits _ _ _ _ _ (at .before .before .before .before .before .on-list .ensures) (at .before .before .if1 .left) (a .end) (now (a .buffer)) (a .at) _
-    (at .place .ensures)
+    (at .read-number .ensures)
     (near .before .before .before .if2 .left)
     _
     _
@@ -37,8 +37,8 @@ returns-3 : tie.Need-returns-3
 returns-3 c =
     let near = c .before .before .before .before in
     let at = near .before .before .before .before in
-    read-done _ _ _ _ _ (at .before .before .before .before .before .on-list .ensures) (at .before .before .if1 .left) _ _ _ _
-    (at .place .ensures)
+    read-went _ _ _ _ _ (at .before .before .before .before .before .on-list .ensures) (at .before .before .if1 .left) _ _ _ _
+    (at .read-number .ensures)
     (near .before .before .before .if2 .left)
     _
     _

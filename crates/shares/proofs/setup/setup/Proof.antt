@@ -8,6 +8,7 @@ use Rattle.pools.specs.Size.{SizesFit}
 use Rattle.books.specs.declared.Book.{Book}
 use Rattle.books.specs.Book.{eight}
 use Rattle.books.specs.Test.{keepsRules}
+use Rattle.shares.specs.Numbers.{decided}
 use Rattle.shares.specs.Setup.{freshBook, setupOf}
 use Rattle.pools.proofs.Size.{sizes-fit}
 use Rattle.shares.proofs.setup.setup.Statement.{statement}
@@ -23,11 +24,11 @@ kept : (c : tie.After-keeps-rules)
 kept c = c .keeps-rules .ensures ∙ ap (λ (b : Book). keepsRules (length (now (c .before .before .before .before .before .before .args .links))) (eight b)) (c .before .fresh-book .ensures)
 
 returns : tie.Need-returns
-unfolding setupOf
+unfolding setupOf decided
 returns c = simp (c .refused .ensures, ← c .before .before .sizes-fit .ensures, not-true (c .before .before .sizes-fit .result) (c .before .if1 .taken))
 
 returns-2 : tie.Need-returns-2
-unfolding setupOf
+unfolding setupOf decided
 returns-2 c =
     simp (
       c .refused2 .ensures,
@@ -39,7 +40,7 @@ returns-2 c =
     )
 
 returns-3 : tie.Need-returns-3
-unfolding setupOf
+unfolding setupOf decided
 returns-3 c =
     simp (
       c .before .before .fresh-values .ensures,

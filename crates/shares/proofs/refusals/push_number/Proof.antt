@@ -1,8 +1,8 @@
--- `shares::refusals::room`: each answer follows from the tests on the way, with limit and share as the list has them.
+-- `shares::refusals::push_number`: each answer follows from the tests on the way, with limit and share as the list has them.
 use borrow.Author.Needs.{needs}
 use borrow.Author.Tests.{eq-eqb, ne-eqb, lt-ltb, le-ltb, le-leb, lt-leb}
-use Rattle.shares.proofs.refusals.room.Statement.{statement}
-use Rattle.shares.proofs.refusals.room.Tie as tie
+use Rattle.shares.proofs.refusals.push_number.Statement.{statement}
+use Rattle.shares.proofs.refusals.push_number.Tie as tie
 
 returns : tie.Need-returns
 returns c = simp (← c .before .before .wide .ensures .0, eq-eqb _ _ (c .if1 .taken))
@@ -42,5 +42,5 @@ returns-4 c =
 returns-5 : tie.Need-returns-5
 returns-5 c = simp (← c .before .before .before .wide .ensures .0, ne-eqb _ _ (c .before .if1 .left), le-ltb _ _ (c .if2 .left))
 
-pub room-spec : {M : Type 1} → statement M
-room-spec = tie.close (tie.spec (λ c. search needs) (λ c. search needs) returns returns-2 returns-3 returns-4 returns-5)
+pub push-number-spec : {M : Type 1} → statement M
+push-number-spec = tie.close (tie.spec (λ c. search needs) (λ c. search needs) returns returns-2 returns-3 returns-4 returns-5)

@@ -1,0 +1,3 @@
+-- Laws of digits, for the crates above to cite.
+pub mod Digits
+pub mod Written

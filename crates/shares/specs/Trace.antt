@@ -1,0 +1,120 @@
+-- Demand 3's premise: "Take an accepted setup, let only the other nine calls touch that pool, each with its slices and the newest book."
+use mathlib.Core.Path.{_≡_}
+use mathlib.Core.Logic.{_↔_, _≢_}
+use mathlib.Core.Bool.{cond}
+use mathlib.Core.List.{List}
+use Prim.Native.Nat.{ℕ, suc, _+_, _≤_, _<_}
+use lib.Dec.{eqb}
+use lib.ListN.{length, getD, set, take}
+use Rattle.books.specs.declared.Book.{Book}
+use Rattle.books.specs.Book.{nullSlot, zeroEntry, eight}
+use Rattle.chains.specs.Count.{count}
+use Rattle.pools.specs.Sound.{Shape, chainAt, joinedUp, lacks, SoundBook}
+use Rattle.shares.specs.Setup.{setupOf}
+use Rattle.shares.specs.Ten.{checkOf, lengthOf, pushBackOf, pushFrontOf, popBackOf, popFrontOf, readForwardOf, readBackwardOf, clearOf}
+
+-- the two slices and the newest book
+pub record State : Type 0 where
+  pub links : List ℕ
+  pub values : List ℕ
+  pub book : Book
+
+-- one of the nine calls, with any arguments: a list number, a value, a buffer and a place
+pub data Move : Type 0 where
+  check : Move
+  askLength : ℕ → Move
+  pushBack : ℕ → ℕ → Move
+  pushFront : ℕ → ℕ → Move
+  popBack : ℕ → Move
+  popFront : ℕ → Move
+  readForward : ℕ → List ℕ → ℕ → Move
+  readBackward : ℕ → List ℕ → ℕ → Move
+  clear : ℕ → Move
+
+-- the number that the call gives
+abbrev pub numberOf : State → Move → ℕ
+numberOf st check = checkOf (st .links) (st .values) (st .book) .number
+numberOf st (askLength l) = lengthOf (st .links) (st .values) (st .book) l .refusal .number
+numberOf st (pushBack l value) = pushBackOf (st .links) (st .values) (st .book) l value .answer .refusal .number
+numberOf st (pushFront l value) = pushFrontOf (st .links) (st .values) (st .book) l value .answer .refusal .number
+numberOf st (popBack l) = popBackOf (st .links) (st .values) (st .book) l .answer .given .refusal .number
+numberOf st (popFront l) = popFrontOf (st .links) (st .values) (st .book) l .answer .given .refusal .number
+numberOf st (readForward l buffer at) = readForwardOf (st .links) (st .values) (st .book) l buffer at .answer .refusal .number
+numberOf st (readBackward l buffer at) = readBackwardOf (st .links) (st .values) (st .book) l buffer at .answer .refusal .number
+numberOf st (clear l) = clearOf (st .links) (st .values) (st .book) l .answer .refusal .number
+
+-- what the call leaves. Check, length and the reads are lent the slices to read alone, and return no book
+abbrev pub after : State → Move → State
+after st check = st
+after st (askLength l) = st
+after st (pushBack l value) = let r = pushBackOf (st .links) (st .values) (st .book) l value in record { links = r .links; values = r .values; book = r .answer .book }
+after st (pushFront l value) = let r = pushFrontOf (st .links) (st .values) (st .book) l value in record { links = r .links; values = r .values; book = r .answer .book }
+after st (popBack l) = let r = popBackOf (st .links) (st .values) (st .book) l in record { links = r .links; values = r .values; book = r .answer .book }
+after st (popFront l) = let r = popFrontOf (st .links) (st .values) (st .book) l in record { links = r .links; values = r .values; book = r .answer .book }
+after st (readForward l buffer at) = st
+after st (readBackward l buffer at) = st
+after st (clear l) = let r = clearOf (st .links) (st .values) (st .book) l in record { links = r .links; values = r .values; book = r .answer .book }
+
+-- "its pushes done" and "its pops done since the setup or its last clear", of each list
+pub record Ledger : Type 0 where
+  pub pushes : ℕ → ℕ
+  pub pops : ℕ → ℕ
+
+abbrev pub nothingNoted : Ledger
+nothingNoted = record { pushes = λ l. 0; pops = λ l. 0 }
+
+abbrev pub oneMore : ℕ → (ℕ → ℕ) → ℕ → ℕ
+oneMore l f k = cond (eqb k l) (suc (f k)) (f k)
+
+abbrev pub noneAt : ℕ → (ℕ → ℕ) → ℕ → ℕ
+noneAt l f k = cond (eqb k l) 0 (f k)
+
+-- what a done call adds to the ledger
+abbrev pub notedDone : Move → Ledger → Ledger
+notedDone check d = d
+notedDone (askLength l) d = d
+notedDone (pushBack l value) d = record { pushes = oneMore l (d .pushes); pops = d .pops }
+notedDone (pushFront l value) d = record { pushes = oneMore l (d .pushes); pops = d .pops }
+notedDone (popBack l) d = record { pushes = d .pushes; pops = oneMore l (d .pops) }
+notedDone (popFront l) d = record { pushes = d .pushes; pops = oneMore l (d .pops) }
+notedDone (readForward l buffer at) d = d
+notedDone (readBackward l buffer at) d = d
+notedDone (clear l) d = record { pushes = noneAt l (d .pushes); pops = noneAt l (d .pops) }
+
+-- a refused call adds nothing
+abbrev pub noted : State → Move → Ledger → Ledger
+noted st m d = cond (eqb (numberOf st m) 0) (notedDone m d) d
+
+module _ (lists : ℕ) (shares limits : List ℕ) where
+  -- an accepted setup, and then any of the nine calls, one after the other, done or refused
+  pub data Trace : State → Ledger → Type 0 where
+    begins : (links values : List ℕ) → setupOf links values lists shares limits .answer .refusal .number ≡ 0
+        → Trace (let r = setupOf links values lists shares limits in record { links = r .links; values = r .values; book = r .answer .book }) nothingNoted
+    goesOn : {st : State} {d : Ledger} → Trace st d → (m : Move) → Trace (after st m) (noted st m d)
+
+  -- what the other lists still lack of their shares: list l's own share left out
+  abbrev pub othersLack : Book → Shape → ℕ → ℕ
+  othersLack b s l = lacks (set (take (b .lists) (b .entries)) l zeroEntry) (s .chains)
+
+  -- what demand 3 says at any point of a trace, sentence by sentence. `s` is the sound shape: the slots that each list holds, and the free ones
+  pub record Demand3 (st : State) (d : Ledger) (s : Shape) : Type 0 where
+    pub sound : SoundBook (st .links) (st .values) (eight (st .book)) s
+    pub asMany : st .book .lists ≡ lists
+    -- "A list holds its pushes done less its pops done since the setup or its last clear"
+    pub holds : (l : ℕ) → l < lists → length (chainAt s l) + d .pops l ≡ d .pushes l
+    -- "slots from 1 on that no list holds are free"
+    pub free : (y : ℕ) → nullSlot < y → y < length (st .links) → count y (joinedUp (s .chains)) ≡ 0 → count y (s .idle) ≡ 1
+    -- "After any calls, no list holds more than its limit"
+    pub within : (l : ℕ) → l < lists → length (chainAt s l) ≤ getD limits l 0
+    -- "A list below its share is never refused a push"
+    pub served : (l value : ℕ) → l < lists → length (chainAt s l) < getD shares l 0
+        → (numberOf st (pushBack l value) ≡ 0) × (numberOf st (pushFront l value) ≡ 0)
+    -- "A push on an existing list gets 6 exactly at its limit"
+    pub six : (l value : ℕ) → l < lists
+        → (numberOf st (pushBack l value) ≡ 6 ↔ (length (chainAt s l) ≡ getD limits l 0)) × (numberOf st (pushFront l value) ≡ 6 ↔ (length (chainAt s l) ≡ getD limits l 0))
+    -- "it gets 7 exactly when it is under its limit, has its share, and the free slots are no more than what the other lists still lack of theirs"
+    pub seven : (l value : ℕ) → l < lists
+        → let Tight = (length (chainAt s l) < getD limits l 0) × (getD shares l 0 ≤ length (chainAt s l)) × (length (s .idle) ≤ othersLack (st .book) s l) in
+        (numberOf st (pushBack l value) ≡ 7 ↔ Tight) × (numberOf st (pushFront l value) ≡ 7 ↔ Tight)
+    -- no call of a trace is refused by 1 or by 3
+    pub never : (m : Move) → (numberOf st m ≢ 1) × (numberOf st m ≢ 3)
