@@ -5,7 +5,7 @@ pub mod Calls
 pub mod Ten
 pub mod Done
 pub mod Rows
-pub mod View
 pub mod Trace
+pub mod View
 pub mod Cases
 pub mod Reach

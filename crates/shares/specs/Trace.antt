@@ -7,7 +7,7 @@ use Prim.Native.Nat.{ℕ, suc, _+_, _≤_, _<_}
 use lib.Dec.{eqb}
 use lib.ListN.{length, getD, set, take}
 use Rattle.books.specs.declared.Book.{Book}
-use Rattle.books.specs.Book.{nullSlot, zeroEntry, eight}
+use Rattle.books.specs.Book.{nullSlot, zeroEntry, entryAt, eight}
 use Rattle.chains.specs.Count.{count}
 use Rattle.pools.specs.Sound.{Shape, chainAt, joinedUp, lacks, SoundBook}
 use Rattle.shares.specs.Setup.{setupOf}
@@ -85,6 +85,10 @@ notedDone (clear l) d = record { pushes = noneAt l (d .pushes); pops = noneAt l 
 abbrev pub noted : State → Move → Ledger → Ledger
 noted st m d = cond (eqb (numberOf st m) 0) (notedDone m d) d
 
+-- what the other lists still lack of their shares: list l's own share left out
+abbrev pub othersLack : Book → Shape → ℕ → ℕ
+othersLack b s l = lacks (set (take (b .lists) (b .entries)) l zeroEntry) (s .chains)
+
 module _ (lists : ℕ) (shares limits : List ℕ) where
   -- an accepted setup, and then any of the nine calls, one after the other, done or refused
   pub data Trace : State → Ledger → Type 0 where
@@ -92,14 +96,12 @@ module _ (lists : ℕ) (shares limits : List ℕ) where
         → Trace (let r = setupOf links values lists shares limits in record { links = r .links; values = r .values; book = r .answer .book }) nothingNoted
     goesOn : {st : State} {d : Ledger} → Trace st d → (m : Move) → Trace (after st m) (noted st m d)
 
-  -- what the other lists still lack of their shares: list l's own share left out
-  abbrev pub othersLack : Book → Shape → ℕ → ℕ
-  othersLack b s l = lacks (set (take (b .lists) (b .entries)) l zeroEntry) (s .chains)
-
   -- what demand 3 says at any point of a trace, sentence by sentence. `s` is the sound shape: the slots that each list holds, and the free ones
   pub record Demand3 (st : State) (d : Ledger) (s : Shape) : Type 0 where
     pub sound : SoundBook (st .links) (st .values) (eight (st .book)) s
     pub asMany : st .book .lists ≡ lists
+    -- the book's shares and limits, by which 7 is decided, are the setup's
+    pub granted : (l : ℕ) → l < lists → (entryAt (st .book .entries) l .share ≡ getD shares l 0) × (entryAt (st .book .entries) l .limit ≡ getD limits l 0)
     -- "A list holds its pushes done less its pops done since the setup or its last clear"
     pub holds : (l : ℕ) → l < lists → length (chainAt s l) + d .pops l ≡ d .pushes l
     -- "slots from 1 on that no list holds are free"

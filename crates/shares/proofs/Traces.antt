@@ -1,0 +1,237 @@
+-- Demand 3 holds at every point of a trace: after an accepted setup and any of the other nine calls.
+use mathlib.Core.Path.{_≡_, refl, sym, ap, subst, _∙_}
+use mathlib.Core.Logic.{_↔_, _≢_, inl}
+use mathlib.Core.Bool.{cond}
+use mathlib.Core.List.{List, [], _∷_, _++_, reverse}
+use Prim.Native.Nat.{ℕ, zero, suc, _+_, _-_, _≤_, _<_}
+use native.Mathlib.Nat.{le-of-suc-le-suc, not-suc-le-zero}
+use native.Mathlib.Decide.{ℕ-discrete}
+use native.Mathlib.Omega.{arith}
+use lib.Dec.{eqb}
+use lib.ListN.{length, getD, set, take, replicate, getD-replicate}
+use lib.Seq.{length-take-le, getD-set-same, getD-set-other}
+use borrow.Author.Tests.{eq-eqb, ne-eqb}
+use Rattle.books.specs.declared.Entry.{Entry}
+use Rattle.books.specs.Book.{zeroEntry, entryAt, eight}
+use Rattle.books.specs.Outcome.{Outcome}
+use Rattle.chains.proofs.Count.{count-append}
+use Rattle.lists.specs.declared.End.{End}
+use Rattle.lists.specs.declared.End.the-variants.{Front, Back}
+use Rattle.lists.specs.Meaning.{joined}
+use Rattle.pools.specs.Sound.{Shape, chainAt, put, joinedUp, lacks, SoundBook}
+use Rattle.pools.proofs.Found.{listed, entry-is, within}
+use Rattle.pools.proofs.Steps.{length-joined}
+use Rattle.shares.specs.Setup.{slotsFrom}
+use Rattle.shares.specs.Calls.{Called}
+use Rattle.shares.specs.Done.{OtherEntries}
+use Rattle.shares.specs.Trace.{State, Move, check, askLength, pushBack, pushFront, popBack, popFront, readForward, readBackward, clear, numberOf, after, Ledger, oneMore, noneAt, notedDone, noted, Trace, begins, goesOn, othersLack, Demand3}
+use Rattle.shares.proofs.Effects.{unique-book}
+use Rattle.shares.proofs.Fresh.{setup-sound, setup-keeps}
+use Rattle.shares.proofs.When.{check-given, length-given, push-given, pop-given, clear-given, read-given}
+use Rattle.shares.proofs.Outcomes.{push-done, pop-done, clear-done}
+use Rattle.shares.proofs.After.{stateOf, left-sound, pushAt, popAt, clearAt, refused-state}
+use Rattle.shares.proofs.Exactly.{not-one-three, push-six, push-seven, push-zero}
+
+-- ---- what the lists lack
+
+-- what all lists lack is what the others lack and what list l does
+lacks-others : (es : List Entry) (cs : List (List ℕ)) (l : ℕ) → l < length es → lacks es cs ≡ lacks (set es l zeroEntry) cs + (entryAt es l .share - length (getD cs l []))
+lacks-others [] cs l b = absurd (not-suc-le-zero b)
+lacks-others (e ∷ es) [] zero b = omega arith
+lacks-others (e ∷ es) (xs ∷ cs) zero b = omega arith
+lacks-others (e ∷ es) [] (suc l) b = omega (arith, lacks-others es [] l (le-of-suc-le-suc b))
+lacks-others (e ∷ es) (xs ∷ cs) (suc l) b = omega (arith, lacks-others es cs l (le-of-suc-le-suc b))
+
+-- ---- the ledger
+
+more-here : (l : ℕ) (f : ℕ → ℕ) → oneMore l f l ≡ suc (f l)
+more-here l f = rw (eq-eqb l l refl)
+
+more-other : (l : ℕ) (f : ℕ → ℕ) (k : ℕ) → k ≢ l → oneMore l f k ≡ f k
+more-other l f k d = rw (ne-eqb k l d)
+
+none-here : (l : ℕ) (f : ℕ → ℕ) → noneAt l f l ≡ 0
+none-here l f = rw (eq-eqb l l refl)
+
+none-other : (l : ℕ) (f : ℕ → ℕ) (k : ℕ) → k ≢ l → noneAt l f k ≡ f k
+none-other l f k d = rw (ne-eqb k l d)
+
+-- ---- what a trace keeps
+
+module _ (lists : ℕ) (shares limits : List ℕ) where
+  -- what every call keeps: soundness, the shares and limits of the setup, and the account of each list's length
+  record Kept (st : State) (d : Ledger) (s : Shape) : Type 0 where
+    sound : SoundBook (st .links) (st .values) (eight (st .book)) s
+    asMany : st .book .lists ≡ lists
+    share : (l : ℕ) → l < lists → entryAt (st .book .entries) l .share ≡ getD shares l 0
+    limit : (l : ℕ) → l < lists → entryAt (st .book .entries) l .limit ≡ getD limits l 0
+    holds : (l : ℕ) → l < lists → length (chainAt s l) + d .pops l ≡ d .pushes l
+
+  -- ---- each call keeps it
+
+  -- a done call on list l: list l becomes xs, of the length that the ledger then tells, and the ledger of every other list stays
+  changed : {st : State} {d d′ : Ledger} {s : Shape} (r : Outcome Called) (l : ℕ) (xs fs : List ℕ) → Kept st d s
+      → SoundBook (r .links) (r .values) (r .answer .book) (put s l xs fs) → OtherEntries (eight (st .book)) l (r .answer .book)
+      → (l < lists → length xs + d′ .pops l ≡ d′ .pushes l)
+      → ((k : ℕ) → k ≢ l → (d′ .pops k ≡ d .pops k) × (d′ .pushes k ≡ d .pushes k))
+      → Kept (stateOf r) d′ (put s l xs fs)
+  changed {st} {d} {d′} {s} r l xs fs K S B here other =
+      record {
+        sound = left-sound r B S;
+        asMany = B .sameCount ∙ K .asMany;
+        share = λ k h. share-at k h (ℕ-discrete k l);
+        limit = λ k h. limit-at k h (ℕ-discrete k l);
+        holds = λ k h. holds-at k h (ℕ-discrete k l);
+      }
+    where
+      share-at : (k : ℕ) → k < lists → Dec (k ≡ l) → entryAt (r .answer .book .entries) k .share ≡ getD shares k 0
+      share-at k h (yes e) = rw e (B .share) ∙ K .share k h
+      share-at k h (no e) = ap (λ (x : Entry). x .share) (B .others k e) ∙ K .share k h
+
+      limit-at : (k : ℕ) → k < lists → Dec (k ≡ l) → entryAt (r .answer .book .entries) k .limit ≡ getD limits k 0
+      limit-at k h (yes e) = rw e (B .limit) ∙ K .limit k h
+      limit-at k h (no e) = ap (λ (x : Entry). x .limit) (B .others k e) ∙ K .limit k h
+
+      chains-are : length (s .chains) ≡ lists
+      chains-are = K .sound .pool .lists ∙ length-take-le (st .book .lists) (st .book .entries) (K .sound .rules .there) ∙ K .asMany
+
+      holds-at : (k : ℕ) → k < lists → Dec (k ≡ l) → length (chainAt (put s l xs fs) k) + d′ .pops k ≡ d′ .pushes k
+      holds-at k h (yes e) = rw (e, getD-set-same (s .chains) l xs [] (omega (arith, chains-are))) (here (omega arith))
+      holds-at k h (no e) = let (p, q) = other k e in rw (getD-set-other (s .chains) l k xs [] e) (omega (arith, K .holds k h))
+
+  module _ {st : State} {d : Ledger} {s : Shape} (K : Kept st d s) where
+    -- the shape that a done call found is this one
+    found : {t : Shape} → SoundBook (st .links) (st .values) (eight (st .book)) t → Kept st d t
+    found T = subst (λ (t : Shape). Kept st d t) (unique-book (K .sound) T) K
+
+    pushed : (end : End) (l value : ℕ) → pushAt st end l value .answer .number ≡ 0
+        → (t : Shape) × Kept (stateOf (pushAt st end l value)) (record { pushes = oneMore l (d .pushes); pops = d .pops }) t
+    pushed end l value z =
+        let (t, T, P) = push-done (st .links) (st .values) (eight (st .book)) l end value z in (
+          _,
+          changed (pushAt st end l value) l (joined end (P .slot) (chainAt t l)) (P .rest) (found T) (P .sound) (P .book)
+              (λ h. omega (arith, found T .holds l h, length-joined end (P .slot) (chainAt t l), more-here l (d .pushes)))
+              (λ k e. (refl, more-other l (d .pushes) k e)),
+        )
+
+    popped : (end : End) (l : ℕ) → popAt st end l .answer .number ≡ 0 → (t : Shape) × Kept (stateOf (popAt st end l)) (record { pushes = d .pushes; pops = oneMore l (d .pops) }) t
+    popped end l z =
+        let (t, T, P) = pop-done (st .links) (st .values) (eight (st .book)) l end z in (
+          _,
+          changed (popAt st end l) l (P .rest) (P .slot ∷ t .idle) (found T) (P .sound) (P .book)
+              (λ h. omega (arith, found T .holds l h, ap length (P .last), length-joined end (P .slot) (P .rest), more-here l (d .pops)))
+              (λ k e. (more-other l (d .pops) k e, refl)),
+        )
+
+    cleared : (l : ℕ) → clearAt st l .answer .number ≡ 0 → (t : Shape) × Kept (stateOf (clearAt st l)) (record { pushes = noneAt l (d .pushes); pops = noneAt l (d .pops) }) t
+    cleared l z =
+        let (t, T, C) = clear-done (st .links) (st .values) (eight (st .book)) l z in (
+          _,
+          changed (clearAt st l) l [] (reverse (chainAt t l) ++ t .idle) (found T) (C .sound) (C .book)
+              (λ h. omega (arith, none-here l (d .pushes), none-here l (d .pops)))
+              (λ k e. (none-other l (d .pops) k e, none-other l (d .pushes) k e)),
+        )
+
+    done-kept : (m : Move) → numberOf st m ≡ 0 → (t : Shape) × Kept (after st m) (notedDone m d) t
+    done-kept check z = (s, K)
+    done-kept (askLength l) z = (s, K)
+    done-kept (pushBack l value) z = pushed Back l value z
+    done-kept (pushFront l value) z = pushed Front l value z
+    done-kept (popBack l) z = popped Back l z
+    done-kept (popFront l) z = popped Front l z
+    done-kept (readForward l buffer at) z = (s, K)
+    done-kept (readBackward l buffer at) z = (s, K)
+    done-kept (clear l) z = cleared l z
+
+    -- done or refused
+    kept : (m : Move) → (t : Shape) × Kept (after st m) (noted st m d) t
+    kept m = go (ℕ-discrete (numberOf st m) 0)
+      where
+        go : Dec (numberOf st m ≡ 0) → (t : Shape) × Kept (after st m) (cond (eqb (numberOf st m) 0) (notedDone m d) d) t
+        go (yes z) = rw (eq-eqb (numberOf st m) 0 z) (done-kept m z)
+        go (no z) = rw (ne-eqb (numberOf st m) 0 z) (s, subst (λ (x : State). Kept x d s) (sym (refused-state st m z)) K)
+
+  trace-kept : {st : State} {d : Ledger} → Trace lists shares limits st d → (s : Shape) × Kept st d s
+  trace-kept (begins links values z) =
+      let M = setup-keeps links values lists shares limits z in
+      let S = setup-sound links values lists shares limits z in (
+        record { chains = replicate lists []; idle = slotsFrom 1 (length links - 1) },
+        record {
+          sound = S;
+          asMany = M .asMany;
+          share = λ l h. M .share l (omega (arith, S .rules .most, M .asMany));
+          limit = λ l h. M .limit l (omega (arith, S .rules .most, M .asMany));
+          holds = λ l h. rw (getD-replicate {A = List ℕ} lists l [] [] h);
+        },
+      )
+  trace-kept (goesOn t m) = let (s, K) = trace-kept t in kept K m
+
+  -- ---- what demand 3 says, sentence by sentence
+
+  module _ {st : State} {d : Ledger} {s : Shape} (K : Kept st d s) where
+    abbrev S : SoundBook (st .links) (st .values) (eight (st .book)) s
+    S = K .sound
+
+    unsaid : (m : Move) → (numberOf st m ≢ 1) × (numberOf st m ≢ 3)
+    unsaid check = not-one-three S tt (check-given (st .links) (st .values) (eight (st .book)))
+    unsaid (askLength l) = not-one-three S (omega arith) (length-given (st .links) (st .values) (eight (st .book)) l)
+    unsaid (pushBack l value) = not-one-three S (omega arith) (push-given (st .links) (st .values) (eight (st .book)) l Back value)
+    unsaid (pushFront l value) = not-one-three S (omega arith) (push-given (st .links) (st .values) (eight (st .book)) l Front value)
+    unsaid (popBack l) = not-one-three S (omega arith) (pop-given (st .links) (st .values) (eight (st .book)) l Back)
+    unsaid (popFront l) = not-one-three S (omega arith) (pop-given (st .links) (st .values) (eight (st .book)) l Front)
+    unsaid (readForward l buffer at) = not-one-three S (omega arith) (read-given (st .links) (st .values) (eight (st .book)) l Front buffer at)
+    unsaid (readBackward l buffer at) = not-one-three S (omega arith) (read-given (st .links) (st .values) (eight (st .book)) l Back buffer at)
+    unsaid (clear l) = not-one-three S (omega arith) (clear-given (st .links) (st .values) (eight (st .book)) l)
+
+    module _ (l value : ℕ) (h : l < lists) where
+      abbrev many : ℕ
+      many = length (chainAt s l)
+
+      below : l < st .book .lists
+      below = omega (arith, K .asMany)
+
+      module _ (end : End) where
+        abbrev number : ℕ
+        number = pushAt st end l value .answer .number
+
+        six-at : number ≡ 6 ↔ (many ≡ getD limits l 0)
+        six-at = rw (K .limit l h) at (push-six S l below end value)
+
+        seven-at : number ≡ 7 ↔ ((many < getD limits l 0) × (getD shares l 0 ≤ many) × (length (s .idle) ≤ othersLack (st .book) s l))
+        seven-at = (
+          λ n. let (x, y, z) = exactly .0 n in (omega (arith, K .limit l h), omega (arith, K .share l h), omega (arith, split)),
+          λ (x, y, z). exactly .1 (omega (arith, K .limit l h), omega (arith, K .share l h), omega (arith, split, K .share l h)),
+        )
+          where
+            exactly : number ≡ 7 ↔ ((many < entryAt (st .book .entries) l .limit) × (entryAt (st .book .entries) l .share ≤ many) × (length (s .idle) ≤ lacks (take (st .book .lists) (st .book .entries)) (s .chains)))
+            exactly = push-seven S l below end value
+
+            split : lacks (take (st .book .lists) (st .book .entries)) (s .chains) ≡ othersLack (st .book) s l + (entryAt (st .book .entries) l .share - many)
+            split = rw (entry-is S l below) at (lacks-others (take (st .book .lists) (st .book .entries)) (s .chains) l (listed S l below))
+
+        served-at : many < getD shares l 0 → number ≡ 0
+        served-at k =
+            push-zero S l below end value .1
+            (record {
+              under = rw (entry-is S l below) (omega (arith, S .rules .fair l below, K .share l h));
+              enough = inl (rw (entry-is S l below) (omega (arith, K .share l h)));
+            })
+
+    demand : Demand3 lists shares limits st d s
+    demand =
+        record {
+          sound = S;
+          asMany = K .asMany;
+          granted = λ l h. (K .share l h, K .limit l h);
+          holds = K .holds;
+          free = λ y p q z. omega (arith, S .pool .once y p q, count-append y (joinedUp (s .chains)) (s .idle));
+          within = λ l h. rw (K .limit l h) at (within S l (below l 0 h));
+          served = λ l value h k. (served-at l value h Back k, served-at l value h Front k);
+          six = λ l value h. (six-at l value h Back, six-at l value h Front);
+          seven = λ l value h. (seven-at l value h Back, seven-at l value h Front);
+          never = unsaid;
+        }
+
+-- demand 3, at any point of any trace
+pub demand-3 : {lists : ℕ} {shares limits : List ℕ} {st : State} {d : Ledger} → Trace lists shares limits st d → (s : Shape) × Demand3 lists shares limits st d s
+demand-3 {lists} {shares} {limits} t = let (s, K) = trace-kept lists shares limits t in (s, demand lists shares limits K)
