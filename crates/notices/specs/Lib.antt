@@ -1,0 +1,2 @@
+-- What a reader of this program believes: which lines it shows.
+pub mod Notices

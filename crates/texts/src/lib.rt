@@ -1,0 +1,48 @@
+// One short text for each number that a call answers with, written into a buffer that the caller lends.
+ghost use Rattle.digits.specs.Digits.{Written};
+ghost use Rattle.texts.specs.Texts.{textOf};
+
+// The number's text into `out` from place `at` on. Answers how many bytes, which is at least 1.
+// Where they do not all fit it answers 0, and nothing is written.
+pub fn write(out: &mut [u8], at: usize, number: u16) -> usize
+    ensures { λ r. ⌜ Written (textOf number) (now (out .entry)) at r (now (out .exit)) ⌝ }
+{
+    match number {
+        0 => put(out, at, b"done"),
+        1 => put(
+            out,
+            at,
+            b"the pool is too small or large, or its parts differ in length",
+        ),
+        2 => put(
+            out,
+            at,
+            b"the lists, shares or limits asked for break the rules",
+        ),
+        3 => put(out, at, b"the pool or its book is damaged"),
+        4 => put(out, at, b"there is no such list"),
+        5 => put(out, at, b"the list is empty"),
+        6 => put(out, at, b"the list is at its limit"),
+        7 => put(out, at, b"the free slots are kept for other lists"),
+        8 => put(out, at, b"the buffer is too small"),
+        9..=65535 => put(out, at, b"this version does not know the number"),
+    }
+}
+
+// The bytes into `out` from place `at` on. Answers how many, or 0 where they do not all fit; nothing is written then.
+pub fn put(out: &mut [u8], at: usize, bytes: &[u8]) -> usize
+    ensures { λ r. ⌜ Written (now (bytes .entry)) (now (out .entry)) at r (now (out .exit)) ⌝ }
+{
+    if out.len() < at {
+        return 0;
+    }
+    if out.len() - at < bytes.len() {
+        return 0;
+    }
+    let mut done: usize = 0;
+    while done < bytes.len() {
+        out[at + done] = bytes[done];
+        done += 1;
+    }
+    done
+}
