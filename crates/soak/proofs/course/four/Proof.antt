@@ -1,0 +1,16 @@
+-- `soak::course::four` ends: the measure is what `k` has left to `4`.
+use mathlib.Core.Path.{_≡_}
+use Prim.Native.Nat.{_-_}
+use lib.ListN.{length}
+use borrow.Author.Needs.{needs}
+use Rattle.soak.proofs.course.four.Statement.{statement}
+use Rattle.soak.proofs.course.four.Tie as tie
+
+abbrev Inv-loop : tie.InvT-loop
+Inv-loop links₀ values₀ buffer₀ deque₀ desk₀ first seed after₀ k₀ links values buffer deque desk after k = (length links ≡ length links₀) × (length values ≡ length values₀) × (length buffer ≡ length buffer₀) × (length deque ≡ length deque₀) × (length desk ≡ length desk₀)
+
+abbrev μ-loop : tie.MeasureT-loop
+μ-loop links₀ values₀ buffer₀ deque₀ desk₀ first seed after₀ k₀ links values buffer deque desk after k = 4 - k
+
+pub four-spec : {M : Type 1} → statement M
+four-spec = tie.close (tie.spec Inv-loop μ-loop (λ c. search needs) (λ c. search needs) (λ c. search needs) (λ c. search needs) (λ c. search needs) (λ c. search needs) (λ c. search needs) (λ c. search needs) (λ c. search needs) (λ c. search needs) (λ c. search needs) (λ c. search needs) (λ c. search needs) (λ c. search needs))

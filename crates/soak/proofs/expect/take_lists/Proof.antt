@@ -1,0 +1,16 @@
+-- `soak::expect::take_lists` ends: the measure is what `list` has left to `8`.
+use mathlib.Core.Path.{_≡_}
+use Prim.Native.Nat.{_-_}
+use lib.ListN.{length}
+use borrow.Author.Needs.{needs}
+use Rattle.soak.proofs.expect.take_lists.Statement.{statement}
+use Rattle.soak.proofs.expect.take_lists.Tie as tie
+
+abbrev Inv-loop : tie.InvT-loop
+Inv-loop deque₀ desk list₀ deque list = length deque ≡ length deque₀
+
+abbrev μ-loop : tie.MeasureT-loop
+μ-loop deque₀ desk list₀ deque list = 8 - list
+
+pub take-lists-spec : {M : Type 1} → statement M
+take-lists-spec = tie.close (tie.spec Inv-loop μ-loop (λ c. search needs) (λ c. search needs) (λ c. search needs) (λ c. search needs) (λ c. search needs) (λ c. search needs) (λ c. search needs) (λ c. search needs) (λ c. search needs) (λ c. search needs) (λ c. search needs))
