@@ -1,0 +1,115 @@
+-- Each function of the C face does what the by-value call does, and where it is refused changes nothing.
+use mathlib.Core.Path.{_≡_, refl, sym, ap, _∙_}
+use mathlib.Core.Logic.{_≢_}
+use mathlib.Core.List.{List}
+use Prim.Native.Nat.{ℕ}
+use native.Mathlib.Decide.{ℕ-discrete}
+use lib.ListN.{length}
+use Rattle.books.specs.declared.Book.{Book}
+use Rattle.books.specs.Book.{wordsOf, AnyBook, eight, bookOf}
+use Rattle.books.specs.Outcome.{Outcome}
+use Rattle.lists.specs.declared.End.the-variants.{Front, Back}
+use Rattle.shares.specs.declared.Answer.{Answer}
+use Rattle.shares.specs.declared.Popped.{Popped}
+use Rattle.shares.specs.Setup.{setupOf}
+use Rattle.shares.specs.Calls.{Called, asAnswer, asPopped, pushCall, popCall, clearCall}
+use Rattle.shares.specs.Ten.{pushBackOf, pushFrontOf, popBackOf, popFrontOf, clearOf}
+use Rattle.shares.specs.Done.{Refused}
+use Rattle.shares.proofs.Fresh.{setup-refused as by-value-setup-refused}
+use Rattle.shares.proofs.Outcomes.{push-refused, pop-refused, clear-refused as by-value-clear-refused, read-refused, length-refused as by-value-length-refused}
+use Rattle.abi.specs.Words.{bookFrom, kept}
+use Rattle.abi.specs.Face.{asChanged, asHanded, setupFace, lengthFace, pushBackFace, pushFrontFace, popBackFace, popFrontFace, readForwardFace, readBackwardFace, clearFace}
+use Rattle.abi.specs.Meaning.{SameChange, SamePop, NotChanged, NotPopped, NotRead}
+use Rattle.abi.proofs.Flat.{words-kept}
+use Rattle.abi.proofs.Kept.{kept-done, kept-refused}
+
+-- ---- said once for the calls that change the pool
+
+module _ (links values words : List ℕ) (h : length words ≡ 34) where
+  -- the words at exit are those of the book, which a refused call returns as it went in
+  same-words : (number : ℕ) (b : Book) → (number ≢ 0 → b ≡ bookFrom words) → kept number words b ≡ wordsOf b
+  same-words number b f = go (ℕ-discrete number 0)
+    where
+      go : Dec (number ≡ 0) → kept number words b ≡ wordsOf b
+      go (yes e) = kept-done number words b e
+      go (no d) = kept-refused number words b d ∙ sym (words-kept words h) ∙ ap wordsOf (sym (f d))
+
+  module _ (r : Outcome Called) (f : r .answer .number ≢ 0 → Refused links values (eight (bookFrom words)) r) where
+    back : r .answer .number ≢ 0 → bookOf (r .answer .book) ≡ bookFrom words
+    back d = ap bookOf (f d .sameBook)
+
+    change-same : SameChange (asAnswer r) (asChanged words (asAnswer r))
+    change-same = record { sameNumber = refl; sameBook = same-words _ _ back; sameLinks = refl; sameValues = refl }
+
+    pop-same : SamePop (asPopped r) (asHanded words (asPopped r))
+    pop-same = record { sameNumber = refl; sameValue = refl; sameBook = same-words _ _ back; sameLinks = refl; sameValues = refl }
+
+module _ (links values words : List ℕ) (r : Outcome Called) (f : r .answer .number ≢ 0 → Refused links values (eight (bookFrom words)) r) where
+  change-not : asChanged words (asAnswer r) .answer .number ≢ 0 → NotChanged links values words (asChanged words (asAnswer r))
+  change-not d = record { bookStays = kept-refused _ words _ d; linksStay = f d .sameLinks; valuesStay = f d .sameValues }
+
+  pop-not : asHanded words (asPopped r) .answer .number ≢ 0 → NotPopped links values words (asHanded words (asPopped r))
+  pop-not d = record { noValue = f d .noValue; bookStays = kept-refused _ words _ d; linksStay = f d .sameLinks; valuesStay = f d .sameValues }
+
+-- ---- the ten functions
+
+module _ (links values : List ℕ) where
+  -- setup: where it is done, the by-value call's book; where it is refused, the lent book stays, and not the all-zero book
+  module _ (lists : ℕ) (shares limits words : List ℕ) where
+    pub setup-same : setupFace links values lists shares limits words .answer .number ≡ 0
+        → SameChange (setupOf links values lists shares limits) (setupFace links values lists shares limits words)
+    setup-same e = record { sameNumber = refl; sameBook = kept-done _ words _ e; sameLinks = refl; sameValues = refl }
+
+    pub setup-refused : setupFace links values lists shares limits words .answer .number ≢ 0 → NotChanged links values words (setupFace links values lists shares limits words)
+    setup-refused d =
+        let R = by-value-setup-refused links values lists shares limits d in
+        record { bookStays = kept-refused _ words _ d; linksStay = R .sameLinks; valuesStay = R .sameValues }
+
+  module _ (words : List ℕ) (l : ℕ) where
+    abbrev b : AnyBook
+    b = eight (bookFrom words)
+
+    pub length-refused : lengthFace links values words l .number ≢ 0 → lengthFace links values words l .length ≡ 0
+    length-refused = by-value-length-refused links values b l
+
+    module _ (value : ℕ) where
+      pub push-back-refused : pushBackFace links values words l value .answer .number ≢ 0 → NotChanged links values words (pushBackFace links values words l value)
+      push-back-refused = change-not links values words (pushCall links values b l Back value) (push-refused links values b l Back value)
+
+      pub push-front-refused : pushFrontFace links values words l value .answer .number ≢ 0 → NotChanged links values words (pushFrontFace links values words l value)
+      push-front-refused = change-not links values words (pushCall links values b l Front value) (push-refused links values b l Front value)
+
+      pub push-back-same : length words ≡ 34 → SameChange (pushBackOf links values (bookFrom words) l value) (pushBackFace links values words l value)
+      push-back-same h = change-same links values words h (pushCall links values b l Back value) (push-refused links values b l Back value)
+
+      pub push-front-same : length words ≡ 34 → SameChange (pushFrontOf links values (bookFrom words) l value) (pushFrontFace links values words l value)
+      push-front-same h = change-same links values words h (pushCall links values b l Front value) (push-refused links values b l Front value)
+
+    pub pop-back-refused : popBackFace links values words l .answer .number ≢ 0 → NotPopped links values words (popBackFace links values words l)
+    pop-back-refused = pop-not links values words (popCall links values b l Back) (pop-refused links values b l Back)
+
+    pub pop-front-refused : popFrontFace links values words l .answer .number ≢ 0 → NotPopped links values words (popFrontFace links values words l)
+    pop-front-refused = pop-not links values words (popCall links values b l Front) (pop-refused links values b l Front)
+
+    pub pop-back-same : length words ≡ 34 → SamePop (popBackOf links values (bookFrom words) l) (popBackFace links values words l)
+    pop-back-same h = pop-same links values words h (popCall links values b l Back) (pop-refused links values b l Back)
+
+    pub pop-front-same : length words ≡ 34 → SamePop (popFrontOf links values (bookFrom words) l) (popFrontFace links values words l)
+    pop-front-same h = pop-same links values words h (popCall links values b l Front) (pop-refused links values b l Front)
+
+    pub clear-refused : clearFace links values words l .answer .number ≢ 0 → NotChanged links values words (clearFace links values words l)
+    clear-refused = change-not links values words (clearCall links values b l) (by-value-clear-refused links values b l)
+
+    pub clear-same : length words ≡ 34 → SameChange (clearOf links values (bookFrom words) l) (clearFace links values words l)
+    clear-same h = change-same links values words h (clearCall links values b l) (by-value-clear-refused links values b l)
+
+    module _ (buffer : List ℕ) (at : ℕ) where
+      pub read-forward-refused : readForwardFace links values words l buffer at .number ≢ 0 → NotRead buffer (readForwardFace links values words l buffer at)
+      read-forward-refused d =
+          let R = read-refused links values b l Front buffer at d in
+          record { noCount = R .noCount; bufferStays = R .sameBuffer }
+
+      pub read-backward-refused : readBackwardFace links values words l buffer at .number ≢ 0 → NotRead buffer (readBackwardFace links values words l buffer at)
+      read-backward-refused d =
+          let R = read-refused links values b l Back buffer at d in
+          record { noCount = R .noCount; bufferStays = R .sameBuffer }

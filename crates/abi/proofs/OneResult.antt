@@ -1,0 +1,77 @@
+-- Two results that a promise of the C face allows are equal: the number, what stands at the word for the answer, the book and every cell.
+use mathlib.Core.Path.{_≡_, sym, ap, _∙_}
+use mathlib.Core.List.{List}
+use Prim.Native.Nat.{ℕ}
+use Rattle.books.specs.Outcome.{Outcome, outcome}
+use Rattle.abi.specs.Face.{Changed, changed, Handed, handed, Told, told, Shown, shown, setupFace, checkFace, lengthFace, pushBackFace, pushFrontFace, popBackFace, popFrontFace, readForwardFace, readBackwardFace, clearFace}
+
+-- ---- what it is for a promise of each kind to allow one result: what one run leaves and, with a mark, what another does
+
+abbrev OneChange : Outcome Changed → Type 0
+OneChange o = (n n′ : ℕ) (book book′ links links′ values values′ : List ℕ) → outcome (changed n book) links values ≡ o → outcome (changed n′ book′) links′ values′ ≡ o
+    → (n ≡ n′) × (book ≡ book′) × (links ≡ links′) × (values ≡ values′)
+
+abbrev OnePop : Outcome Handed → Type 0
+OnePop o = (n n′ v v′ : ℕ) (book book′ links links′ values values′ : List ℕ) → outcome (handed n v book) links values ≡ o → outcome (handed n′ v′ book′) links′ values′ ≡ o
+    → (n ≡ n′) × (v ≡ v′) × (book ≡ book′) × (links ≡ links′) × (values ≡ values′)
+
+abbrev OneLength : Told → Type 0
+OneLength o = (n n′ v v′ : ℕ) → told n v ≡ o → told n′ v′ ≡ o → (n ≡ n′) × (v ≡ v′)
+
+abbrev OneRead : Shown → Type 0
+OneRead o = (n n′ v v′ : ℕ) (buffer buffer′ : List ℕ) → shown n v buffer ≡ o → shown n′ v′ buffer′ ≡ o → (n ≡ n′) × (v ≡ v′) × (buffer ≡ buffer′)
+
+one-change : (o : Outcome Changed) → OneChange o
+one-change o n n′ book book′ links links′ values values′ e f =
+    let g = e ∙ sym f in
+    (ap (λ (x : Outcome Changed). x .answer .number) g, ap (λ (x : Outcome Changed). x .answer .book) g, ap (λ (x : Outcome Changed). x .links) g, ap (λ (x : Outcome Changed). x .values) g)
+
+one-pop : (o : Outcome Handed) → OnePop o
+one-pop o n n′ v v′ book book′ links links′ values values′ e f =
+    let g = e ∙ sym f in
+    (ap (λ (x : Outcome Handed). x .answer .number) g, ap (λ (x : Outcome Handed). x .answer .value) g, ap (λ (x : Outcome Handed). x .answer .book) g, ap (λ (x : Outcome Handed). x .links) g, ap (λ (x : Outcome Handed). x .values) g)
+
+one-length : (o : Told) → OneLength o
+one-length o n n′ v v′ e f =
+    let g = e ∙ sym f in
+    (ap (λ (x : Told). x .number) g, ap (λ (x : Told). x .length) g)
+
+one-read : (o : Shown) → OneRead o
+one-read o n n′ v v′ buffer buffer′ e f =
+    let g = e ∙ sym f in
+    (ap (λ (x : Shown). x .number) g, ap (λ (x : Shown). x .count) g, ap (λ (x : Shown). x .buffer) g)
+
+-- ---- the ten functions
+
+module _ (links values : List ℕ) where
+  pub setup-one : (lists : ℕ) (shares limits words : List ℕ) → OneChange (setupFace links values lists shares limits words)
+  setup-one lists shares limits words = one-change _
+
+  module _ (words : List ℕ) where
+    pub check-one : (n n′ : ℕ) → n ≡ checkFace links values words → n′ ≡ checkFace links values words → n ≡ n′
+    check-one n n′ e f = e ∙ sym f
+
+    module _ (l : ℕ) where
+      pub length-one : OneLength (lengthFace links values words l)
+      length-one = one-length _
+
+      pub push-back-one : (value : ℕ) → OneChange (pushBackFace links values words l value)
+      push-back-one value = one-change _
+
+      pub push-front-one : (value : ℕ) → OneChange (pushFrontFace links values words l value)
+      push-front-one value = one-change _
+
+      pub pop-back-one : OnePop (popBackFace links values words l)
+      pop-back-one = one-pop _
+
+      pub pop-front-one : OnePop (popFrontFace links values words l)
+      pop-front-one = one-pop _
+
+      pub read-forward-one : (buffer : List ℕ) (at : ℕ) → OneRead (readForwardFace links values words l buffer at)
+      read-forward-one buffer at = one-read _
+
+      pub read-backward-one : (buffer : List ℕ) (at : ℕ) → OneRead (readBackwardFace links values words l buffer at)
+      read-backward-one buffer at = one-read _
+
+      pub clear-one : OneChange (clearFace links values words l)
+      clear-one = one-change _

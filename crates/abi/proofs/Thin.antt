@@ -1,0 +1,24 @@
+-- A thin function gives what the by-value call gives: said once for the calls that change the pool, for the pops and for the reads.
+use mathlib.Core.Path.{_≡_, refl, ap, _∙_}
+use mathlib.Core.List.{List}
+use Prim.Native.Nat.{ℕ}
+use Rattle.books.specs.declared.Book.{Book}
+use Rattle.books.specs.Outcome.{Outcome, outcome}
+use Rattle.shares.specs.declared.Answer.{Answer}
+use Rattle.shares.specs.declared.Popped.{Popped}
+use Rattle.shares.specs.declared.Read.{Read}
+use Rattle.shares.specs.Calls.{ReadLeft, readLeft}
+use Rattle.abi.specs.Words.{kept}
+use Rattle.abi.specs.Face.{Changed, changed, Handed, handed, Shown, shown, asChanged, asHanded, asShown}
+
+module _ (words : List ℕ) {after links values : List ℕ} {number : ℕ} where
+  pub changed-by : {r : Answer} {o : Outcome Answer} → number ≡ r .refusal .number → after ≡ kept (r .refusal .number) words (r .book) → outcome r links values ≡ o
+      → outcome (changed number after) links values ≡ asChanged words o
+  changed-by {r} e f g = rw e (rw f refl) ∙ ap (λ (x : Outcome Answer). asChanged words x) g
+
+  pub handed-by : {r : Popped} {o : Outcome Popped} → number ≡ r .given .refusal .number → after ≡ kept (r .given .refusal .number) words (r .book) → outcome r links values ≡ o
+      → outcome (handed number (r .given .value) after) links values ≡ asHanded words o
+  handed-by {r} e f g = rw e (rw f refl) ∙ ap (λ (x : Outcome Popped). asHanded words x) g
+
+pub shown-by : {buffer : List ℕ} {r : Read} {o : ReadLeft} → readLeft r buffer ≡ o → shown (r .refusal .number) (r .count) buffer ≡ asShown o
+shown-by g = ap (λ (x : ReadLeft). asShown x) g

@@ -1,0 +1,17 @@
+-- `abi::changes::flailreeve_pop_front`: what the by-value call gives, over the book that the words are.
+use mathlib.Core.Path.{_∙_, ap}
+use borrow.Author.Needs.{needs}
+use Rattle.books.specs.declared.Book.{Book}
+use Rattle.shares.specs.Ten.{popFrontOf}
+use Rattle.abi.proofs.Thin.{handed-by}
+use Rattle.abi.proofs.changes.flailreeve_pop_front.Statement.{statement}
+use Rattle.abi.proofs.changes.flailreeve_pop_front.Tie as tie
+
+returns : tie.Need-returns
+returns c =
+    let a = c .before .before .before .before .before .before .before .before .before .before .before .before .before .before .before .before .args in
+    handed-by _ (c .keep .ensures .0) (c .keep .ensures .1)
+    (c .before .before .before .before .before .before .before .before .before .pop-front .ensures ∙ ap (λ (b : Book). popFrontOf (a .links .now) (a .values .now) b (a .list)) (c .before .before .before .before .before .before .before .before .before .before .before .before .book-from .ensures))
+
+pub flailreeve-pop-front-spec : {M : Type 1} → statement M
+flailreeve-pop-front-spec = tie.close (tie.spec (λ c. search needs) (λ c. search needs) (λ c. search needs) (λ c. search needs) (λ c. search needs) returns)

@@ -1,0 +1,4 @@
+-- What a reader of the C face believes: the book as words, what each of the ten functions gives and leaves, and what it owes.
+pub mod Words
+pub mod Face
+pub mod Meaning

@@ -1,0 +1,42 @@
+-- What a function of the C face owes: the same as the by-value call that it stands for, and nothing changed where it is refused.
+use mathlib.Core.Path.{_≡_}
+use mathlib.Core.List.{List}
+use Prim.Native.Nat.{ℕ}
+use Rattle.books.specs.Book.{wordsOf}
+use Rattle.books.specs.Outcome.{Outcome}
+use Rattle.shares.specs.declared.Answer.{Answer}
+use Rattle.shares.specs.declared.Popped.{Popped}
+use Rattle.abi.specs.Face.{Changed, Handed, Shown}
+
+-- the number, the book, word by word, and both slices are those of the by-value call
+pub record SameChange (o : Outcome Answer) (r : Outcome Changed) : Type 0 where
+  pub sameNumber : r .answer .number ≡ o .answer .refusal .number
+  pub sameBook : r .answer .book ≡ wordsOf (o .answer .book)
+  pub sameLinks : r .links ≡ o .links
+  pub sameValues : r .values ≡ o .values
+
+-- of a pop, the value too
+pub record SamePop (o : Outcome Popped) (r : Outcome Handed) : Type 0 where
+  pub sameNumber : r .answer .number ≡ o .answer .given .refusal .number
+  pub sameValue : r .answer .value ≡ o .answer .given .value
+  pub sameBook : r .answer .book ≡ wordsOf (o .answer .book)
+  pub sameLinks : r .links ≡ o .links
+  pub sameValues : r .values ≡ o .values
+
+-- a refused call leaves the lent book and both slices as they were
+pub record NotChanged (links values words : List ℕ) (r : Outcome Changed) : Type 0 where
+  pub bookStays : r .answer .book ≡ words
+  pub linksStay : r .links ≡ links
+  pub valuesStay : r .values ≡ values
+
+-- and a refused pop writes 0 to `value`
+pub record NotPopped (links values words : List ℕ) (r : Outcome Handed) : Type 0 where
+  pub noValue : r .answer .value ≡ 0
+  pub bookStays : r .answer .book ≡ words
+  pub linksStay : r .links ≡ links
+  pub valuesStay : r .values ≡ values
+
+-- a refused read writes 0 to `count`, and leaves the buffer
+pub record NotRead (buffer : List ℕ) (r : Shown) : Type 0 where
+  pub noCount : r .count ≡ 0
+  pub bufferStays : r .buffer ≡ buffer

@@ -1,0 +1,4 @@
+// The C face: the ten calls over flat slices, a book of 34 words, and words that a call writes its answer to. include/flailreeve.h declares it.
+pub mod changes;
+pub mod looks;
+mod words;
