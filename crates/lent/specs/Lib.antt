@@ -1,0 +1,2 @@
+-- What a reader of the lent calls believes.
+pub mod Lent
