@@ -8,8 +8,8 @@ use native.Mathlib.Nat.{le-of-suc-le-suc, not-suc-le-zero}
 use native.Mathlib.Decide.{ℕ-discrete}
 use native.Mathlib.Omega.{arith}
 use lib.Dec.{eqb}
-use lib.ListN.{length, getD, set, take, replicate, getD-replicate}
-use lib.Seq.{length-take-le, getD-set-same, getD-set-other}
+use lib.ListN.{length, getD, set, take, replicate, getD-replicate, length-append}
+use lib.Seq.{length-take-le, getD-set-same, getD-set-other, take-append-seam}
 use borrow.Author.Tests.{eq-eqb, ne-eqb}
 use Rattle.books.specs.declared.Entry.{Entry}
 use Rattle.books.specs.Book.{zeroEntry, entryAt, eight}
@@ -17,14 +17,14 @@ use Rattle.books.specs.Outcome.{Outcome}
 use Rattle.chains.proofs.Count.{count-append}
 use Rattle.lists.specs.declared.End.{End}
 use Rattle.lists.specs.declared.End.the-variants.{Front, Back}
-use Rattle.lists.specs.Meaning.{joined}
+use Rattle.lists.specs.Meaning.{joined, contents}
 use Rattle.pools.specs.Sound.{Shape, chainAt, put, joinedUp, lacks, SoundBook}
 use Rattle.pools.proofs.Found.{listed, entry-is, within}
 use Rattle.pools.proofs.Steps.{length-joined}
 use Rattle.shares.specs.Setup.{slotsFrom}
 use Rattle.shares.specs.Calls.{Called}
-use Rattle.shares.specs.Done.{OtherEntries}
-use Rattle.shares.specs.Trace.{State, Move, check, askLength, pushBack, pushFront, popBack, popFront, readForward, readBackward, clear, numberOf, after, Ledger, oneMore, noneAt, notedDone, noted, Trace, begins, goesOn, othersLack, Demand3}
+use Rattle.shares.specs.Done.{OtherEntries, OtherLists}
+use Rattle.shares.specs.Trace.{State, Move, check, askLength, pushBack, pushFront, popBack, popFront, readForward, readBackward, clear, numberOf, after, Ledger, oneMore, noneAt, heldAt, butLast, butFirst, notedDone, noted, Trace, begins, goesOn, othersLack, Demand3}
 use Rattle.shares.proofs.Effects.{unique-book}
 use Rattle.shares.proofs.Fresh.{setup-sound, setup-keeps}
 use Rattle.shares.proofs.When.{check-given, length-given, push-given, pop-given, clear-given, read-given}
@@ -56,6 +56,24 @@ none-here l f = rw (eq-eqb l l refl)
 none-other : (l : ℕ) (f : ℕ → ℕ) (k : ℕ) → k ≢ l → noneAt l f k ≡ f k
 none-other l f k d = rw (ne-eqb k l d)
 
+held-here : (l : ℕ) (vs : List ℕ) (f : ℕ → List ℕ) → heldAt l vs f l ≡ vs
+held-here l vs f = rw (eq-eqb l l refl)
+
+held-other : (l : ℕ) (vs : List ℕ) (f : ℕ → List ℕ) (k : ℕ) → k ≢ l → heldAt l vs f k ≡ f k
+held-other l vs f k d = rw (ne-eqb k l d)
+
+-- a sequence without its value at an end
+abbrev without : End → List ℕ → List ℕ
+without Front vs = butFirst vs
+without Back vs = butLast vs
+
+without-joined : (end : End) (v : ℕ) (vs : List ℕ) → without end (joined end v vs) ≡ vs
+without-joined Front v vs = refl
+without-joined Back v vs = ap (λ n. take n (vs ++ v ∷ [])) one-less ∙ take-append-seam vs (v ∷ [])
+  where
+    one-less : length (vs ++ v ∷ []) - 1 ≡ length vs
+    one-less = omega (arith, length-append vs (v ∷ []))
+
 -- ---- what a trace keeps
 
 module _ (lists : ℕ) (shares limits : List ℕ) where
@@ -66,22 +84,25 @@ module _ (lists : ℕ) (shares limits : List ℕ) where
     share : (l : ℕ) → l < lists → entryAt (st .book .entries) l .share ≡ getD shares l 0
     limit : (l : ℕ) → l < lists → entryAt (st .book .entries) l .limit ≡ getD limits l 0
     holds : (l : ℕ) → l < lists → length (chainAt s l) + d .pops l ≡ d .pushes l
+    sequence : (l : ℕ) → l < lists → contents (st .values) (chainAt s l) ≡ d .held l
 
   -- ---- each call keeps it
 
   -- a done call on list l: list l becomes xs, of the length that the ledger then tells, and the ledger of every other list stays
   changed : {st : State} {d d′ : Ledger} {s : Shape} (r : Outcome Called) (l : ℕ) (xs fs : List ℕ) → Kept st d s
       → SoundBook (r .links) (r .values) (r .answer .book) (put s l xs fs) → OtherEntries (eight (st .book)) l (r .answer .book)
-      → (l < lists → length xs + d′ .pops l ≡ d′ .pushes l)
-      → ((k : ℕ) → k ≢ l → (d′ .pops k ≡ d .pops k) × (d′ .pushes k ≡ d .pushes k))
+      → OtherLists (st .values) s l (r .values)
+      → (l < lists → (length xs + d′ .pops l ≡ d′ .pushes l) × (contents (r .values) xs ≡ d′ .held l))
+      → ((k : ℕ) → k ≢ l → (d′ .pops k ≡ d .pops k) × (d′ .pushes k ≡ d .pushes k) × (d′ .held k ≡ d .held k))
       → Kept (stateOf r) d′ (put s l xs fs)
-  changed {st} {d} {d′} {s} r l xs fs K S B here other =
+  changed {st} {d} {d′} {s} r l xs fs K S B O here other =
       record {
         sound = left-sound r B S;
         asMany = B .sameCount ∙ K .asMany;
         share = λ k h. share-at k h (ℕ-discrete k l);
         limit = λ k h. limit-at k h (ℕ-discrete k l);
         holds = λ k h. holds-at k h (ℕ-discrete k l);
+        sequence = λ k h. sequence-at k h (ℕ-discrete k l);
       }
     where
       share-at : (k : ℕ) → k < lists → Dec (k ≡ l) → entryAt (r .answer .book .entries) k .share ≡ getD shares k 0
@@ -96,8 +117,12 @@ module _ (lists : ℕ) (shares limits : List ℕ) where
       chains-are = K .sound .pool .lists ∙ length-take-le (st .book .lists) (st .book .entries) (K .sound .rules .there) ∙ K .asMany
 
       holds-at : (k : ℕ) → k < lists → Dec (k ≡ l) → length (chainAt (put s l xs fs) k) + d′ .pops k ≡ d′ .pushes k
-      holds-at k h (yes e) = rw (e, getD-set-same (s .chains) l xs [] (omega (arith, chains-are))) (here (omega arith))
-      holds-at k h (no e) = let (p, q) = other k e in rw (getD-set-other (s .chains) l k xs [] e) (omega (arith, K .holds k h))
+      holds-at k h (yes e) = rw (e, getD-set-same (s .chains) l xs [] (omega (arith, chains-are))) (here (omega arith) .0)
+      holds-at k h (no e) = let (p, q, u) = other k e in rw (getD-set-other (s .chains) l k xs [] e) (omega (arith, K .holds k h))
+
+      sequence-at : (k : ℕ) → k < lists → Dec (k ≡ l) → contents (r .values) (chainAt (put s l xs fs) k) ≡ d′ .held k
+      sequence-at k h (yes e) = rw (e, getD-set-same (s .chains) l xs [] (omega (arith, chains-are))) (here (omega arith) .1)
+      sequence-at k h (no e) = let (p, q, u) = other k e in rw (getD-set-other (s .chains) l k xs [] e) (O k e ∙ K .sequence k h ∙ sym u)
 
   module _ {st : State} {d : Ledger} {s : Shape} (K : Kept st d s) where
     -- the shape that a done call found is this one
@@ -105,31 +130,38 @@ module _ (lists : ℕ) (shares limits : List ℕ) where
     found T = subst (λ (t : Shape). Kept st d t) (unique-book (K .sound) T) K
 
     pushed : (end : End) (l value : ℕ) → pushAt st end l value .answer .number ≡ 0
-        → (t : Shape) × Kept (stateOf (pushAt st end l value)) (record { pushes = oneMore l (d .pushes); pops = d .pops }) t
+        → (t : Shape) × Kept (stateOf (pushAt st end l value)) (record { pushes = oneMore l (d .pushes); pops = d .pops; held = heldAt l (joined end value (d .held l)) (d .held) }) t
     pushed end l value z =
         let (t, T, P) = push-done (st .links) (st .values) (eight (st .book)) l end value z in (
           _,
-          changed (pushAt st end l value) l (joined end (P .slot) (chainAt t l)) (P .rest) (found T) (P .sound) (P .book)
-              (λ h. omega (arith, found T .holds l h, length-joined end (P .slot) (chainAt t l), more-here l (d .pushes)))
-              (λ k e. (refl, more-other l (d .pushes) k e)),
+          changed (pushAt st end l value) l (joined end (P .slot) (chainAt t l)) (P .rest) (found T) (P .sound) (P .book) (P .otherLists)
+              (λ h. (
+                omega (arith, found T .holds l h, length-joined end (P .slot) (chainAt t l), more-here l (d .pushes)),
+                P .holds ∙ ap (joined end value) (found T .sequence l h) ∙ sym (held-here l _ (d .held)),
+              ))
+              (λ k e. (refl, more-other l (d .pushes) k e, held-other l _ (d .held) k e)),
         )
 
-    popped : (end : End) (l : ℕ) → popAt st end l .answer .number ≡ 0 → (t : Shape) × Kept (stateOf (popAt st end l)) (record { pushes = d .pushes; pops = oneMore l (d .pops) }) t
+    popped : (end : End) (l : ℕ) → popAt st end l .answer .number ≡ 0
+        → (t : Shape) × Kept (stateOf (popAt st end l)) (record { pushes = d .pushes; pops = oneMore l (d .pops); held = heldAt l (without end (d .held l)) (d .held) }) t
     popped end l z =
         let (t, T, P) = pop-done (st .links) (st .values) (eight (st .book)) l end z in (
           _,
-          changed (popAt st end l) l (P .rest) (P .slot ∷ t .idle) (found T) (P .sound) (P .book)
-              (λ h. omega (arith, found T .holds l h, ap length (P .last), length-joined end (P .slot) (P .rest), more-here l (d .pops)))
-              (λ k e. (more-other l (d .pops) k e, refl)),
+          changed (popAt st end l) l (P .rest) (P .slot ∷ t .idle) (found T) (P .sound) (P .book) (P .otherLists)
+              (λ h. (
+                omega (arith, found T .holds l h, ap length (P .last), length-joined end (P .slot) (P .rest), more-here l (d .pops)),
+                sym (without-joined end _ _) ∙ ap (without end) (sym (P .holds) ∙ found T .sequence l h) ∙ sym (held-here l _ (d .held)),
+              ))
+              (λ k e. (more-other l (d .pops) k e, refl, held-other l _ (d .held) k e)),
         )
 
-    cleared : (l : ℕ) → clearAt st l .answer .number ≡ 0 → (t : Shape) × Kept (stateOf (clearAt st l)) (record { pushes = noneAt l (d .pushes); pops = noneAt l (d .pops) }) t
+    cleared : (l : ℕ) → clearAt st l .answer .number ≡ 0 → (t : Shape) × Kept (stateOf (clearAt st l)) (record { pushes = noneAt l (d .pushes); pops = noneAt l (d .pops); held = heldAt l [] (d .held) }) t
     cleared l z =
         let (t, T, C) = clear-done (st .links) (st .values) (eight (st .book)) l z in (
           _,
-          changed (clearAt st l) l [] (reverse (chainAt t l) ++ t .idle) (found T) (C .sound) (C .book)
-              (λ h. omega (arith, none-here l (d .pushes), none-here l (d .pops)))
-              (λ k e. (none-other l (d .pops) k e, none-other l (d .pushes) k e)),
+          changed (clearAt st l) l [] (reverse (chainAt t l) ++ t .idle) (found T) (C .sound) (C .book) (C .otherLists)
+              (λ h. (omega (arith, none-here l (d .pushes), none-here l (d .pops)), sym (held-here l [] (d .held))))
+              (λ k e. (none-other l (d .pops) k e, none-other l (d .pushes) k e, held-other l [] (d .held) k e)),
         )
 
     done-kept : (m : Move) → numberOf st m ≡ 0 → (t : Shape) × Kept (after st m) (notedDone m d) t
@@ -162,6 +194,7 @@ module _ (lists : ℕ) (shares limits : List ℕ) where
           share = λ l h. M .share l (omega (arith, S .rules .most, M .asMany));
           limit = λ l h. M .limit l (omega (arith, S .rules .most, M .asMany));
           holds = λ l h. rw (getD-replicate {A = List ℕ} lists l [] [] h);
+          sequence = λ l h. rw (getD-replicate {A = List ℕ} lists l [] [] h);
         },
       )
   trace-kept (goesOn t m) = let (s, K) = trace-kept t in kept K m
@@ -224,6 +257,7 @@ module _ (lists : ℕ) (shares limits : List ℕ) where
           asMany = K .asMany;
           granted = λ l h. (K .share l h, K .limit l h);
           holds = K .holds;
+          sequence = K .sequence;
           free = λ y p q z. omega (arith, S .pool .once y p q, count-append y (joinedUp (s .chains)) (s .idle));
           within = λ l h. rw (K .limit l h) at (within S l (below l 0 h));
           served = λ l value h k. (served-at l value h Back k, served-at l value h Front k);

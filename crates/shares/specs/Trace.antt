@@ -2,13 +2,14 @@
 use mathlib.Core.Path.{_≡_}
 use mathlib.Core.Logic.{_↔_, _≢_}
 use mathlib.Core.Bool.{cond}
-use mathlib.Core.List.{List}
-use Prim.Native.Nat.{ℕ, suc, _+_, _≤_, _<_}
+use mathlib.Core.List.{List, [], _∷_, _++_}
+use Prim.Native.Nat.{ℕ, suc, _+_, _-_, _≤_, _<_}
 use lib.Dec.{eqb}
-use lib.ListN.{length, getD, set, take}
+use lib.ListN.{length, getD, set, take, drop}
 use Rattle.books.specs.declared.Book.{Book}
 use Rattle.books.specs.Book.{nullSlot, zeroEntry, entryAt, eight}
 use Rattle.chains.specs.Count.{count}
+use Rattle.lists.specs.Meaning.{contents}
 use Rattle.pools.specs.Sound.{Shape, chainAt, joinedUp, lacks, SoundBook}
 use Rattle.shares.specs.Setup.{setupOf}
 use Rattle.shares.specs.Ten.{checkOf, lengthOf, pushBackOf, pushFrontOf, popBackOf, popFrontOf, readForwardOf, readBackwardOf, clearOf}
@@ -55,13 +56,14 @@ after st (readForward l buffer at) = st
 after st (readBackward l buffer at) = st
 after st (clear l) = let r = clearOf (st .links) (st .values) (st .book) l in record { links = r .links; values = r .values; book = r .answer .book }
 
--- "its pushes done" and "its pops done since the setup or its last clear", of each list
+-- "its pushes done" and "its pops done since the setup or its last clear", of each list: how many, and the values pushed less those popped, from the front
 pub record Ledger : Type 0 where
   pub pushes : ℕ → ℕ
   pub pops : ℕ → ℕ
+  pub held : ℕ → List ℕ
 
 abbrev pub nothingNoted : Ledger
-nothingNoted = record { pushes = λ l. 0; pops = λ l. 0 }
+nothingNoted = record { pushes = λ l. 0; pops = λ l. 0; held = λ l. [] }
 
 abbrev pub oneMore : ℕ → (ℕ → ℕ) → ℕ → ℕ
 oneMore l f k = cond (eqb k l) (suc (f k)) (f k)
@@ -69,17 +71,28 @@ oneMore l f k = cond (eqb k l) (suc (f k)) (f k)
 abbrev pub noneAt : ℕ → (ℕ → ℕ) → ℕ → ℕ
 noneAt l f k = cond (eqb k l) 0 (f k)
 
+-- another sequence for list l
+abbrev pub heldAt : ℕ → List ℕ → (ℕ → List ℕ) → ℕ → List ℕ
+heldAt l vs f k = cond (eqb k l) vs (f k)
+
+-- all but the last, and all but the first
+abbrev pub butLast : List ℕ → List ℕ
+butLast vs = take (length vs - 1) vs
+
+abbrev pub butFirst : List ℕ → List ℕ
+butFirst vs = drop 1 vs
+
 -- what a done call adds to the ledger
 abbrev pub notedDone : Move → Ledger → Ledger
 notedDone check d = d
 notedDone (askLength l) d = d
-notedDone (pushBack l value) d = record { pushes = oneMore l (d .pushes); pops = d .pops }
-notedDone (pushFront l value) d = record { pushes = oneMore l (d .pushes); pops = d .pops }
-notedDone (popBack l) d = record { pushes = d .pushes; pops = oneMore l (d .pops) }
-notedDone (popFront l) d = record { pushes = d .pushes; pops = oneMore l (d .pops) }
+notedDone (pushBack l value) d = record { pushes = oneMore l (d .pushes); pops = d .pops; held = heldAt l (d .held l ++ value ∷ []) (d .held) }
+notedDone (pushFront l value) d = record { pushes = oneMore l (d .pushes); pops = d .pops; held = heldAt l (value ∷ d .held l) (d .held) }
+notedDone (popBack l) d = record { pushes = d .pushes; pops = oneMore l (d .pops); held = heldAt l (butLast (d .held l)) (d .held) }
+notedDone (popFront l) d = record { pushes = d .pushes; pops = oneMore l (d .pops); held = heldAt l (butFirst (d .held l)) (d .held) }
 notedDone (readForward l buffer at) d = d
 notedDone (readBackward l buffer at) d = d
-notedDone (clear l) d = record { pushes = noneAt l (d .pushes); pops = noneAt l (d .pops) }
+notedDone (clear l) d = record { pushes = noneAt l (d .pushes); pops = noneAt l (d .pops); held = heldAt l [] (d .held) }
 
 -- a refused call adds nothing
 abbrev pub noted : State → Move → Ledger → Ledger
@@ -102,8 +115,9 @@ module _ (lists : ℕ) (shares limits : List ℕ) where
     pub asMany : st .book .lists ≡ lists
     -- the book's shares and limits, by which 7 is decided, are the setup's
     pub granted : (l : ℕ) → l < lists → (entryAt (st .book .entries) l .share ≡ getD shares l 0) × (entryAt (st .book .entries) l .limit ≡ getD limits l 0)
-    -- "A list holds its pushes done less its pops done since the setup or its last clear"
+    -- "A list holds its pushes done less its pops done since the setup or its last clear": as many, and these values in this order
     pub holds : (l : ℕ) → l < lists → length (chainAt s l) + d .pops l ≡ d .pushes l
+    pub sequence : (l : ℕ) → l < lists → contents (st .values) (chainAt s l) ≡ d .held l
     -- "slots from 1 on that no list holds are free"
     pub free : (y : ℕ) → nullSlot < y → y < length (st .links) → count y (joinedUp (s .chains)) ≡ 0 → count y (s .idle) ≡ 1
     -- "After any calls, no list holds more than its limit"
