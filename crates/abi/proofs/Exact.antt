@@ -13,13 +13,13 @@ use Rattle.shares.specs.declared.Answer.{Answer}
 use Rattle.shares.specs.declared.Popped.{Popped}
 use Rattle.shares.specs.Setup.{setupOf}
 use Rattle.shares.specs.Calls.{Called, asAnswer, asPopped, pushCall, popCall, clearCall}
-use Rattle.shares.specs.Ten.{pushBackOf, pushFrontOf, popBackOf, popFrontOf, clearOf}
+use Rattle.shares.specs.Ten.{checkOf, lengthOf, pushBackOf, pushFrontOf, popBackOf, popFrontOf, readForwardOf, readBackwardOf, clearOf}
 use Rattle.shares.specs.Done.{Refused}
 use Rattle.shares.proofs.Fresh.{setup-refused as by-value-setup-refused}
 use Rattle.shares.proofs.Outcomes.{push-refused, pop-refused, clear-refused as by-value-clear-refused, read-refused, length-refused as by-value-length-refused}
 use Rattle.abi.specs.Words.{bookFrom, kept}
-use Rattle.abi.specs.Face.{asChanged, asHanded, setupFace, lengthFace, pushBackFace, pushFrontFace, popBackFace, popFrontFace, readForwardFace, readBackwardFace, clearFace}
-use Rattle.abi.specs.Meaning.{SameChange, SamePop, NotChanged, NotPopped, NotRead}
+use Rattle.abi.specs.Face.{asChanged, asHanded, setupFace, checkFace, lengthFace, pushBackFace, pushFrontFace, popBackFace, popFrontFace, readForwardFace, readBackwardFace, clearFace}
+use Rattle.abi.specs.Meaning.{SameChange, SamePop, SameLength, SameRead, NotChanged, NotPopped, NotRead}
 use Rattle.abi.proofs.Flat.{words-kept}
 use Rattle.abi.proofs.Kept.{kept-done, kept-refused}
 
@@ -65,9 +65,15 @@ module _ (links values : List ℕ) where
         let R = by-value-setup-refused links values lists shares limits d in
         record { bookStays = kept-refused _ words _ d; linksStay = R .sameLinks; valuesStay = R .sameValues }
 
+  pub check-same : (words : List ℕ) → checkFace links values words ≡ checkOf links values (bookFrom words) .number
+  check-same words = refl
+
   module _ (words : List ℕ) (l : ℕ) where
     abbrev b : AnyBook
     b = eight (bookFrom words)
+
+    pub length-same : SameLength (lengthOf links values (bookFrom words) l) (lengthFace links values words l)
+    length-same = record { sameNumber = refl; sameLength = refl }
 
     pub length-refused : lengthFace links values words l .number ≢ 0 → lengthFace links values words l .length ≡ 0
     length-refused = by-value-length-refused links values b l
@@ -104,6 +110,12 @@ module _ (links values : List ℕ) where
     clear-same h = change-same links values words h (clearCall links values b l) (by-value-clear-refused links values b l)
 
     module _ (buffer : List ℕ) (at : ℕ) where
+      pub read-forward-same : SameRead (readForwardOf links values (bookFrom words) l buffer at) (readForwardFace links values words l buffer at)
+      read-forward-same = record { sameNumber = refl; sameCount = refl; sameBuffer = refl }
+
+      pub read-backward-same : SameRead (readBackwardOf links values (bookFrom words) l buffer at) (readBackwardFace links values words l buffer at)
+      read-backward-same = record { sameNumber = refl; sameCount = refl; sameBuffer = refl }
+
       pub read-forward-refused : readForwardFace links values words l buffer at .number ≢ 0 → NotRead buffer (readForwardFace links values words l buffer at)
       read-forward-refused d =
           let R = read-refused links values b l Front buffer at d in

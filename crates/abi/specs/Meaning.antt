@@ -6,7 +6,9 @@ use Rattle.books.specs.Book.{wordsOf}
 use Rattle.books.specs.Outcome.{Outcome}
 use Rattle.shares.specs.declared.Answer.{Answer}
 use Rattle.shares.specs.declared.Popped.{Popped}
-use Rattle.abi.specs.Face.{Changed, Handed, Shown}
+use Rattle.shares.specs.declared.Length.{Length}
+use Rattle.shares.specs.Calls.{ReadLeft}
+use Rattle.abi.specs.Face.{Changed, Handed, Told, Shown}
 
 -- the number, the book, word by word, and both slices are those of the by-value call
 pub record SameChange (o : Outcome Answer) (r : Outcome Changed) : Type 0 where
@@ -22,6 +24,17 @@ pub record SamePop (o : Outcome Popped) (r : Outcome Handed) : Type 0 where
   pub sameBook : r .answer .book ≡ wordsOf (o .answer .book)
   pub sameLinks : r .links ≡ o .links
   pub sameValues : r .values ≡ o .values
+
+-- of length, the number and the length
+pub record SameLength (o : Length) (r : Told) : Type 0 where
+  pub sameNumber : r .number ≡ o .refusal .number
+  pub sameLength : r .length ≡ o .length
+
+-- of a read, the number, the count and the buffer
+pub record SameRead (o : ReadLeft) (r : Shown) : Type 0 where
+  pub sameNumber : r .number ≡ o .answer .refusal .number
+  pub sameCount : r .count ≡ o .answer .count
+  pub sameBuffer : r .buffer ≡ o .buffer
 
 -- a refused call leaves the lent book and both slices as they were
 pub record NotChanged (links values words : List ℕ) (r : Outcome Changed) : Type 0 where
