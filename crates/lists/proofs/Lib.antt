@@ -4,8 +4,4 @@ pub mod Ways
 pub mod Steps
 pub mod Front
 pub mod Ends
-pub mod Read
-pub mod Fill
-pub mod Clearing
 pub mod Pools
-pub mod Walks

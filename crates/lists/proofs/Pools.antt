@@ -15,17 +15,15 @@ use Rattle.slots.specs.Model.{takeOf, releaseOf}
 use Rattle.lists.specs.declared.End.the-variants.{Front, Back}
 use Rattle.lists.specs.Model.{nearOf, withNear, isBeside, pushEmptyOf, pushBesideOf, pushOf, popOf}
 use Rattle.lists.specs.Meaning.{Apart, contents, Held}
-use Rattle.lists.specs.Read.{valuesAlong, countRead, bufferAfter}
-use Rattle.lists.specs.Clear.{clearOn}
 use Rattle.lists.proofs.Ends.{push-held, new-held}
 
-abbrev six : ℕ → ℕ → ℕ → ℕ → ℕ → ℕ → List ℕ
+abbrev pub six : ℕ → ℕ → ℕ → ℕ → ℕ → ℕ → List ℕ
 six a b c d e f = a ∷ b ∷ c ∷ d ∷ e ∷ f ∷ []
 
-abbrev list : ℕ → ℕ → Entry
+abbrev pub list : ℕ → ℕ → Entry
 list h t = record { head = h; tail = t; share = 2; limit = 5 }
 
-abbrev idle : ℕ → Free
+abbrev pub idle : ℕ → Free
 idle h = record { head = h }
 
 slot-of-six : (y : ℕ) → 0 < y → y < 6 → InPool (six 0 2 3 4 5 0) (six 0 0 0 0 0 0) y
@@ -75,17 +73,3 @@ pub p2-popped : (popOf Front (six 0 1 1 1 5 0) (six 0 20 30 10 0 0) (list 3 2) (
     × (popOf Front (six 0 1 1 1 5 0) (six 0 20 30 10 0 0) (list 3 2) (idle 4) .values ≡ six 0 20 30 0 0 0)
 unfolding popOf isBeside nearOf withNear releaseOf inPool
 p2-popped = (refl, refl, refl)
-
--- P3 read into five places from the second on: forward, and from the tail backward
-pub p3-read : (countRead (six 0 1 5 1 2 0) (six 0 20 30 10 40 0) 3 (7 ∷ 7 ∷ 7 ∷ 7 ∷ 7 ∷ []) 1 ≡ 4)
-    × (bufferAfter (six 0 1 5 1 2 0) (six 0 20 30 10 40 0) 3 (7 ∷ 7 ∷ 7 ∷ 7 ∷ 7 ∷ []) 1 ≡ 7 ∷ 10 ∷ 20 ∷ 30 ∷ 40 ∷ [])
-    × (bufferAfter (six 0 1 5 1 2 0) (six 0 20 30 10 40 0) 4 (7 ∷ 7 ∷ 7 ∷ 7 ∷ 7 ∷ []) 1 ≡ 7 ∷ 40 ∷ 30 ∷ 20 ∷ 10 ∷ [])
-unfolding valuesAlong inPool
-p3-read = (refl, refl, refl)
-
--- P2 emptied: every slot is idle, the last of the list first, and every value is wiped
-pub p2-cleared : (clearOn 3 (six 0 1 1 1 5 0) (six 0 20 30 10 0 0) (list 3 2) (idle 4) .answer .free .head ≡ 2)
-    × (clearOn 3 (six 0 1 1 1 5 0) (six 0 20 30 10 0 0) (list 3 2) (idle 4) .links ≡ six 0 3 1 4 5 0)
-    × (clearOn 3 (six 0 1 1 1 5 0) (six 0 20 30 10 0 0) (list 3 2) (idle 4) .values ≡ six 0 0 0 0 0 0)
-unfolding clearOn popOf isBeside nearOf withNear releaseOf inPool
-p2-cleared = (refl, refl, refl)

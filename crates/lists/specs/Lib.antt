@@ -1,6 +1,3 @@
 -- What a reader of the list layer believes: what each step gives, and what the laws say of it.
 pub mod Model
 pub mod Meaning
-pub mod Read
-pub mod Clear
-pub mod Walk

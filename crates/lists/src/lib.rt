@@ -1,8 +1,4 @@
 // Layer 2: upstream's list over a lent pool, as total steps under upstream's names and in its order (000: `DListXor`).
-pub mod clear;
-pub mod reads;
-pub mod walk;
-
 use books::Book;
 use books::Entry;
 use books::Free;

@@ -22,9 +22,9 @@ use Rattle.slots.specs.Met.{markAll, unmet}
 use Rattle.slots.specs.Walk.{Path}
 use Rattle.slots.proofs.Seen.{seen}
 use Rattle.slots.proofs.Walks.{pass-unmet}
-use Rattle.lists.specs.declared.walk.LiveWalk.{LiveWalk}
-use Rattle.lists.specs.Walk.{livePath, LiveWalked}
-use Rattle.lists.proofs.Walks.{live-fresh, live-only, live-finds}
+use Rattle.walks.specs.declared.walk.LiveWalk.{LiveWalk}
+use Rattle.walks.specs.Walk.{livePath, LiveWalked}
+use Rattle.walks.proofs.Walks.{live-fresh, live-only, live-finds}
 use Rattle.pools.specs.declared.check.Gathered.{Gathered}
 use Rattle.pools.specs.Sound.{joinedUp, lacks}
 use Rattle.pools.specs.Check.{endsWell, gatherOne, gatherFault, Round, round, gatherAll}

@@ -16,8 +16,8 @@ use Rattle.slots.specs.Met.{isMetOf, markAll, unmet}
 use Rattle.slots.specs.Walk.{idlePath}
 use Rattle.slots.proofs.Seen.{unmet-le}
 use Rattle.slots.proofs.Walks.{pass-unmet, idle-fresh}
-use Rattle.lists.specs.Walk.{livePath}
-use Rattle.lists.proofs.Walks.{live-fresh}
+use Rattle.walks.specs.Walk.{livePath}
+use Rattle.walks.proofs.Walks.{live-fresh}
 use Rattle.pools.specs.declared.check.Gathered.{Gathered}
 use Rattle.pools.specs.declared.check.Found.{Found}
 use Rattle.pools.specs.Check.{fault, nothingMet, gatheredNone, endsWell, gatherOne, Round, round, gatherAll, lowestUnmet, faulty, nullSlotZero, idleFound, poolFound}

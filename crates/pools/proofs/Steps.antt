@@ -24,10 +24,10 @@ use Rattle.lists.specs.declared.Pushed.{Pushed}
 use Rattle.lists.specs.declared.Popped.{Popped}
 use Rattle.lists.specs.Meaning.{unlessNull, joined, Held, Joins, Leaves, PushDone, PopDone}
 use Rattle.lists.proofs.Steps.{push-done, pop-done}
-use Rattle.lists.specs.declared.clear.Cleared.{Cleared}
-use Rattle.lists.specs.Clear.{clearOn, Empties}
 use Rattle.lists.proofs.Ends.{push-held, pop-held}
-use Rattle.lists.proofs.Clearing.{clear-held}
+use Rattle.walks.specs.declared.clear.Cleared.{Cleared}
+use Rattle.walks.specs.Clear.{clearOn, Empties}
+use Rattle.walks.proofs.Clearing.{clear-held}
 use Rattle.pools.specs.Sound.{Shape, chainAt, put, lacks, Sound, Room}
 use Rattle.pools.proofs.Shape.{lacks-part, no-null, part}
 use Rattle.pools.proofs.Kept.{sound-held, sound-put}

@@ -11,7 +11,7 @@ use Rattle.books.specs.Test.{keepsRules}
 use Rattle.chains.specs.Chain.{cell, lastOr}
 use Rattle.slots.specs.Met.{isMetOf, markAll}
 use Rattle.slots.specs.Walk.{Path, unwipedFrom, idlePath}
-use Rattle.lists.specs.Walk.{livePath}
+use Rattle.walks.specs.Walk.{livePath}
 use Rattle.pools.specs.Size.{sizesFit}
 use Rattle.pools.specs.declared.check.Fault.{Fault}
 use Rattle.pools.specs.declared.check.Gathered.{Gathered}

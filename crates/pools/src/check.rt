@@ -150,7 +150,7 @@ fn gather(links: &[u16], met: &mut [u8], count: u16, entries: [Entry; 8], wanted
     while list < count {
         let k = books::wide(list);
         let entry = entries[k];
-        let walk = lists::walk::walk_live(links, met, entry);
+        let walk = walks::walk::walk_live(links, met, entry);
         if !walk.ok {
             return gather_fault(list, walk.length, g);
         }
@@ -190,7 +190,7 @@ fn lowest_unmet(met: &[u8], size: usize) -> usize
     let mut slot: u16 = 1;
     let mut place: usize = 1;
     while place < size {
-        if !lists::walk::is_met(met, slot) {
+        if !walks::walk::is_met(met, slot) {
             return place;
         }
         slot += 1;
@@ -273,7 +273,7 @@ fn find_idle(
     requires { ⌜ Size (length (now links)) × (g .live + unmet (now met) ≤ 4096) ⌝ }
     ensures { λ r. ⌜ r ≡ idleFound (now (links .entry)) (now (values .entry)) count (round g (now (met .entry))) (idlePath (now (links .entry)) (now (met .entry)) free) ⌝ }
 {
-    let idle = lists::walk::walk_idle(links, values, met, free);
+    let idle = walks::walk::walk_idle(links, values, met, free);
     let many = idle.length;
     let fault = idle_fault(met, links.len(), count, g, idle.ok, many, idle.unwiped);
     Found {

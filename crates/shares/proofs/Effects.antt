@@ -21,15 +21,15 @@ use Rattle.lists.specs.declared.End.{End}
 use Rattle.lists.specs.declared.End.the-variants.{Front, Back}
 use Rattle.lists.specs.declared.Pushed.{Pushed}
 use Rattle.lists.specs.declared.Popped.{Popped}
-use Rattle.lists.specs.declared.clear.Cleared.{Cleared}
 use Rattle.lists.specs.Model.{nearOf, pushOf, popOf}
 use Rattle.lists.specs.Meaning.{joined, contents, Held, Joins, Leaves, PushDone, PopDone}
-use Rattle.lists.specs.Clear.{clearOn, Emptied, Empties}
 use Rattle.lists.proofs.Steps.{push-done, pop-done}
 use Rattle.lists.proofs.Front.{in-list, in-idle, contents-same}
 use Rattle.lists.proofs.Ends.{push-held, pop-held}
-use Rattle.lists.proofs.Clearing.{clear-held, clear-emptied}
-use Rattle.lists.proofs.Read.{read-forward, read-backward}
+use Rattle.walks.specs.declared.clear.Cleared.{Cleared}
+use Rattle.walks.specs.Clear.{clearOn, Emptied, Empties}
+use Rattle.walks.proofs.Clearing.{clear-held, clear-emptied}
+use Rattle.walks.proofs.Read.{read-forward, read-backward}
 use Rattle.pools.specs.Sound.{Shape, chainAt, Sound, SoundBook, Room}
 use Rattle.pools.proofs.Found.{listed, entry-is}
 use Rattle.shares.specs.Calls.{withList, afterPush, afterPop, afterClear, afterRead}

@@ -11,7 +11,7 @@ use borrow.Author.Tests.{eqb-true, eq-eqb, leb-true, leb-false, lt-leb}
 use Rattle.books.specs.Book.{entryAt, AnyBook}
 use Rattle.lists.specs.declared.End.{End}
 use Rattle.lists.specs.Model.{nearOf}
-use Rattle.lists.specs.Read.{countRead}
+use Rattle.walks.specs.Read.{countRead}
 use Rattle.pools.specs.Sound.{Shape, SoundBook}
 use Rattle.pools.specs.Size.{SizesFit, sizesFit}
 use Rattle.shares.specs.Numbers.{Test, firstThat, decided}

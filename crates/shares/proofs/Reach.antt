@@ -7,9 +7,9 @@ use lib.ListN.{replicate}
 use Rattle.books.specs.Tabulate.{tabulate}
 use Rattle.books.specs.Table.{mayGive}
 use Rattle.books.specs.Test.{isFair, isZero, gather, allZero, keepsRules}
-use Rattle.lists.specs.Clear.{clearOn}
-use Rattle.lists.specs.Read.{valuesAlong}
 use Rattle.lists.specs.Model.{nearOf, withNear, isBeside, pushEmptyOf, pushBesideOf, pushOf, popOf}
+use Rattle.walks.specs.Clear.{clearOn}
+use Rattle.walks.specs.Read.{valuesAlong}
 use Rattle.pools.specs.Check.{nothingMet, gatherAll, spareFault, idleFault, nullSlotZero, poolFound, checkFound}
 use Rattle.pools.specs.Size.{sizesFit}
 use Rattle.shares.specs.Calls.{lengthCall, clearCall, readCall, checkCall, pushCall, popCall}

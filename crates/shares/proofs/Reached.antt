@@ -11,10 +11,10 @@ use Rattle.books.specs.Outcome.{Outcome, outcome}
 use Rattle.lists.specs.declared.End.{End}
 use Rattle.lists.specs.declared.Pushed.{Pushed}
 use Rattle.lists.specs.declared.Popped as L
-use Rattle.lists.specs.declared.clear.Cleared.{Cleared}
 use Rattle.lists.specs.Model.{nearOf, pushOf, popOf}
-use Rattle.lists.specs.Read.{countRead, bufferAfter}
-use Rattle.lists.specs.Clear.{clearOn}
+use Rattle.walks.specs.declared.clear.Cleared.{Cleared}
+use Rattle.walks.specs.Read.{countRead, bufferAfter}
+use Rattle.walks.specs.Clear.{clearOn}
 use Rattle.shares.specs.declared.Answer.{Answer}
 use Rattle.shares.specs.declared.Length.{Length}
 use Rattle.shares.specs.declared.Popped.{Popped}

@@ -17,10 +17,10 @@ use Rattle.chains.proofs.Count.{hit-other, one-other}
 use Rattle.slots.specs.Meaning.{Frame}
 use Rattle.lists.specs.declared.End.{End}
 use Rattle.lists.specs.declared.End.the-variants.{Front, Back}
-use Rattle.lists.specs.declared.clear.Cleared.{Cleared}
 use Rattle.lists.specs.Model.{nearOf}
 use Rattle.lists.specs.Meaning.{unlessNull, opposite}
-use Rattle.lists.proofs.Clearing.{emptied-unique}
+use Rattle.walks.specs.declared.clear.Cleared.{Cleared}
+use Rattle.walks.proofs.Clearing.{emptied-unique}
 use Rattle.pools.specs.Sound.{Shape}
 use Rattle.shares.specs.Calls.{Called, called, ReadLeft, readLeft, readOf}
 use Rattle.shares.specs.Done.{OtherEntries, Refused, Pushes, Pops, Clears, Reads, ReadRefused}

@@ -13,8 +13,8 @@ use Rattle.books.specs.Book.{entryAt, AnyBook, bookOf}
 use Rattle.books.specs.Outcome.{Outcome, outcome}
 use Rattle.lists.specs.declared.End.{End}
 use Rattle.lists.specs.Model.{nearOf, pushOf, popOf}
-use Rattle.lists.specs.Read.{countRead, bufferAfter}
-use Rattle.lists.specs.Clear.{clearOn}
+use Rattle.walks.specs.Read.{countRead, bufferAfter}
+use Rattle.walks.specs.Clear.{clearOn}
 use Rattle.shares.specs.declared.Answer.{Answer}
 use Rattle.shares.specs.declared.Popped.{Popped}
 use Rattle.shares.specs.declared.Length.{Length}

@@ -13,7 +13,7 @@ use Rattle.slots.specs.Meaning.{Frame}
 use Rattle.lists.specs.declared.End.{End}
 use Rattle.lists.specs.declared.End.the-variants.{Front, Back}
 use Rattle.lists.specs.Meaning.{joined, contents, PushDone, PopDone}
-use Rattle.lists.specs.Clear.{Emptied}
+use Rattle.walks.specs.Clear.{Emptied}
 use Rattle.pools.specs.Sound.{Shape, chainAt, put, SoundBook}
 use Rattle.shares.specs.Calls.{Called, ReadLeft}
 

@@ -19,7 +19,7 @@ pub fn clear(links: &mut [u16], values: &mut [u64], book: Book, list: u16) -> An
     let k = books::wide(list);
     let entry = book.entries[k];
     let free = book.free;
-    let gone = lists::clear::clear(links, values, entry, free, found.length);
+    let gone = walks::clear::clear(links, values, entry, free, found.length);
     Answer {
         refusal: Refusal { number: 0 },
         book: crate::ends::with_list(book, k, gone.entry, gone.free),

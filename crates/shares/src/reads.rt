@@ -77,7 +77,7 @@ fn read(
     }
     let k = books::wide(list);
     let entry = book.entries[k];
-    let count = lists::reads::read(links, values, lists::near_of(end, entry), buffer, at);
+    let count = walks::reads::read(links, values, lists::near_of(end, entry), buffer, at);
     let many = count as u16;
     Read {
         refusal: Refusal { number: 0 },

@@ -12,7 +12,7 @@ use Rattle.books.specs.declared.Entry.{Entry}
 use Rattle.books.specs.Book.{zeroEntry, entryAt}
 use Rattle.slots.specs.Met.{unmet}
 use Rattle.slots.proofs.Seen.{unmet-le}
-use Rattle.lists.specs.Walk.{LiveWalked}
+use Rattle.walks.specs.Walk.{LiveWalked}
 use Rattle.pools.specs.Check.{gatheredNone, gatherAll}
 use Rattle.pools.proofs.Gather.{gather-done, gather-next, gather-halt, live-unmet}
 use Rattle.pools.proofs.check.gather.Statement.{statement}

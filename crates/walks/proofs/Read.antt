@@ -19,9 +19,9 @@ use Rattle.chains.proofs.Chain.{Chain, linked-iff, first-reverse, live-reverse}
 use Rattle.chains.proofs.Xor.{xor-cancel-out}
 use Rattle.slots.specs.Slot.{InPool, inPool}
 use Rattle.slots.proofs.Slot.{in-pool}
 use Rattle.lists.specs.Meaning.{contents}
-use Rattle.lists.specs.Read.{nextAlong, valuesAlong, valuesRead, countRead, bufferAfter, Keeps}
 use Rattle.lists.proofs.Ends.{contents-reverse}
+use Rattle.walks.specs.Read.{nextAlong, valuesAlong, valuesRead, countRead, bufferAfter, Keeps}
 
 -- ---- the values along a chain, slot by slot
 

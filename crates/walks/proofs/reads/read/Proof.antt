@@ -1,10 +1,10 @@
--- `lists::reads::read`: what `fill` left of the part from `at` on, put into the whole buffer.
+-- `walks::reads::read`: what `fill` left of the part from `at` on, put into the whole buffer.
 use denote.Ref.{now}
 use borrow.Author.Needs.{needs}
-use Rattle.lists.proofs.Read.{nothing-read}
-use Rattle.lists.proofs.Fill.{part-filled}
-use Rattle.lists.proofs.reads.read.Statement.{statement}
-use Rattle.lists.proofs.reads.read.Tie as tie
+use Rattle.walks.proofs.Read.{nothing-read}
+use Rattle.walks.proofs.Fill.{part-filled}
+use Rattle.walks.proofs.reads.read.Statement.{statement}
+use Rattle.walks.proofs.reads.read.Tie as tie
 
 returns : tie.Need-returns
 returns c =

@@ -1,4 +1,4 @@
--- `lists::walk::walk_live`: at each turn the path is the slots passed so far and then the path from here.
+-- `walks::walk::walk_live`: at each turn the path is the slots passed so far and then the path from here.
 use mathlib.Core.Path.{_≡_, refl, sym, ap, _∙_}
 use mathlib.Core.Bool.{false}
 use mathlib.Core.List.{List, [], _∷_, _++_}
@@ -13,10 +13,10 @@ use Rattle.chains.proofs.Chain.{last-append}
 use Rattle.slots.specs.Met.{isMetOf, markOf, unmet}
 use Rattle.slots.proofs.Seen.{unmet-mark}
 use Rattle.slots.proofs.Going.{Going, going-start, going-on, going-end, going-past, going-met, going-length, going-room}
-use Rattle.lists.specs.Walk.{liveOnward}
-use Rattle.lists.proofs.Walks.{live-walked}
-use Rattle.lists.proofs.walk.walk_live.Statement.{statement}
-use Rattle.lists.proofs.walk.walk_live.Tie as tie
+use Rattle.walks.specs.Walk.{liveOnward}
+use Rattle.walks.proofs.Walks.{live-walked}
+use Rattle.walks.proofs.walk.walk_live.Statement.{statement}
+use Rattle.walks.proofs.walk.walk_live.Tie as tie
 
 abbrev Inv-loop : tie.InvT-loop
 Inv-loop links met₀ list slot₀ last₀ many₀ met slot last many =

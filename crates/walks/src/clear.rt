@@ -3,7 +3,7 @@ use books::Entry;
 use books::Free;
 ghost use mathlib.Core.Path.{_≡_};
 ghost use Rattle.books.specs.Outcome.{outcome};
-ghost use Rattle.lists.specs.Clear.{clearOn};
+ghost use Rattle.walks.specs.Clear.{clearOn};
 
 // Whether each pop was done, and the list and the idle chain then.
 pub struct Cleared {
@@ -26,7 +26,7 @@ pub fn clear(
     let mut rest = free;
     let mut left = count;
     while 0 < left {
-        let gone = crate::pop_front(links, values, entry, rest);
+        let gone = lists::pop_front(links, values, entry, rest);
         entry = gone.entry;
         rest = gone.free;
         if !gone.done {

@@ -1,4 +1,4 @@
--- `lists::reads::fill`: before each turn the places passed hold the first values of the chain, and the rest of the buffer is as it was.
+-- `walks::reads::fill`: before each turn the places passed hold the first values of the chain, and the rest of the buffer is as it was.
 use mathlib.Core.Path.{sym, _∙_}
 use Prim.Native.Nat.{_-_}
 use lib.ListN.{length}
@@ -7,10 +7,10 @@ use borrow.Author.Needs.{needs}
 use borrow.Author.Tests.{not-true, not-false}
 use Rattle.slots.specs.Slot.{InPool}
 use Rattle.slots.proofs.Slot.{in-pool, not-in-pool}
-use Rattle.lists.proofs.Read.{no-slot}
-use Rattle.lists.proofs.Fill.{Filling, fill-begins, fill-ends, fill-full, fill-goes-on}
-use Rattle.lists.proofs.reads.fill.Statement.{statement}
-use Rattle.lists.proofs.reads.fill.Tie as tie
+use Rattle.walks.proofs.Read.{no-slot}
+use Rattle.walks.proofs.Fill.{Filling, fill-begins, fill-ends, fill-full, fill-goes-on}
+use Rattle.walks.proofs.reads.fill.Statement.{statement}
+use Rattle.walks.proofs.reads.fill.Tie as tie
 
 abbrev Inv-loop : tie.InvT-loop
 Inv-loop links values start out₀ slot₀ previous₀ count₀ out slot previous count = Filling links values start out₀ out previous slot count

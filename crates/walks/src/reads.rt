@@ -3,7 +3,7 @@ use books::Book;
 ghost use mathlib.Core.Path.{_≡_};
 ghost use lib.ListN.{length};
 ghost use Rattle.books.specs.Book.{nullSlot};
-ghost use Rattle.lists.specs.Read.{valuesAlong, Filled, countRead, bufferAfter};
+ghost use Rattle.walks.specs.Read.{valuesAlong, Filled, countRead, bufferAfter};
 
 // The values of the chain that starts with `start`, into `buffer` from place `at` on, as many as there is room for. Answers how many.
 // From its last slot a chain is read backward. The chain ends at the null slot, or at a number that is no slot.

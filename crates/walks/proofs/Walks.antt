@@ -18,8 +18,8 @@ use Rattle.slots.specs.Walk.{walkFrom}
 use Rattle.slots.proofs.Seen.{seen}
 use Rattle.slots.proofs.Going.{Going}
 use Rattle.slots.proofs.Walks.{Along, Adds, Passes, walk-fresh, walk-only, walk-finds}
-use Rattle.lists.specs.declared.walk.LiveWalk.{LiveWalk}
-use Rattle.lists.specs.Walk.{liveOnward, livePath, LiveWalked}
+use Rattle.walks.specs.declared.walk.LiveWalk.{LiveWalk}
+use Rattle.walks.specs.Walk.{liveOnward, livePath, LiveWalked}
 
 -- where the walk along a list's chain ends, what was gathered on the way is the answer
 pub live-walked : {links met : List ℕ} {list : Entry} {passed met′ : List ℕ} {slot many : ℕ} {ok end : Bool}

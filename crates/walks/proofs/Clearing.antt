@@ -20,16 +20,16 @@ use Rattle.chains.specs.Count.{count}
 use Rattle.chains.specs.Chain.{cell, firstOr}
 use Rattle.chains.proofs.Count.{hit-same, hit-other}
 use Rattle.chains.proofs.Chain.{linked-iff}
 use Rattle.lists.specs.declared.End.the-variants.{Front}
 use Rattle.lists.specs.declared.Popped.{Popped}
-use Rattle.lists.specs.declared.clear.Cleared.{Cleared}
 use Rattle.lists.specs.Model.{nearOf, popOf}
 use Rattle.lists.specs.Meaning.{unlessNull, touchedByPop, Held}
-use Rattle.lists.specs.Clear.{doneClear, refusedClear, clearOn, Emptied, Stays, Preserves, Empties}
-use Rattle.lists.specs.Clear as E
 use Rattle.lists.proofs.Steps.{pop-refused, pop-done}
 use Rattle.lists.proofs.Front.{held-once, tail-not-null}
 use Rattle.lists.proofs.Ends.{pop-held}
+use Rattle.walks.specs.declared.clear.Cleared.{Cleared}
+use Rattle.walks.specs.Clear.{doneClear, refusedClear, clearOn, Emptied, Stays, Preserves, Empties}
+use Rattle.walks.specs.Clear as E
 
 -- ---- one turn
 

@@ -7,7 +7,7 @@ use slots::walk::IdleWalk;
 ghost use mathlib.Core.Path.{_≡_};
 ghost use Rattle.slots.specs.Met.{isMetOf};
 ghost use Rattle.slots.specs.Walk.{IdleWalked};
-ghost use Rattle.lists.specs.Walk.{LiveWalked};
+ghost use Rattle.walks.specs.Walk.{LiveWalked};
 
 // Whether the walk came to its end at the list's tail, and how many slots it passed.
 pub struct LiveWalk {

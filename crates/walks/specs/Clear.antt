@@ -12,10 +12,10 @@ use Rattle.books.specs.Outcome.{Outcome, outcome}
 use Rattle.chains.specs.Count.{count}
 use Rattle.chains.specs.Chain.{cell}
 use Rattle.slots.specs.Meaning.{Frame}
 use Rattle.lists.specs.declared.End.the-variants.{Front}
-use Rattle.lists.specs.declared.clear.Cleared.{Cleared}
 use Rattle.lists.specs.Model.{popOf}
 use Rattle.lists.specs.Meaning.{Held}
+use Rattle.walks.specs.declared.clear.Cleared.{Cleared}
 
 abbrev pub doneClear : Entry → Free → Cleared
 doneClear list free = record { done = true; entry = list; free = free }

@@ -11,7 +11,7 @@ use Rattle.books.specs.Book.{nullSlot}
 use Rattle.chains.specs.Chain.{lastOr}
 use Rattle.slots.specs.Met.{markAll}
 use Rattle.slots.specs.Walk.{Path, walkFrom}
-use Rattle.lists.specs.declared.walk.LiveWalk.{LiveWalk}
+use Rattle.walks.specs.declared.walk.LiveWalk.{LiveWalk}
 
 -- of a live chain, the slot after is the link XORed with the slot before
 abbrev pub liveOnward : ℕ → ℕ → ℕ

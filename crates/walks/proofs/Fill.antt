@@ -11,8 +11,8 @@ use borrow.Author.Tests.{le-leb}
 use Rattle.books.specs.Book.{nullSlot}
 use Rattle.chains.specs.Chain.{cell}
 use Rattle.slots.specs.Slot.{InPool}
-use Rattle.lists.specs.Read.{nextAlong, valuesAlong, Filled, countRead, bufferAfter}
-use Rattle.lists.proofs.Read.{no-room, one-more}
+use Rattle.walks.specs.Read.{nextAlong, valuesAlong, Filled, countRead, bufferAfter}
+use Rattle.walks.proofs.Read.{no-room, one-more}
 
 -- ---- the loop of `fill`
 

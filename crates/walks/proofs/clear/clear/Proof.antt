@@ -1,13 +1,13 @@
--- `lists::clear::clear`: before each turn the pops that are left give what all of them were to give.
+-- `walks::clear::clear`: before each turn the pops that are left give what all of them were to give.
 use mathlib.Core.Path.{_≡_, refl, _∙_}
 use native.Mathlib.Omega.{arith}
 use lib.ListN.{length}
 use borrow.Author.Needs.{needs}
 use borrow.Author.Tests.{not-true, not-false}
-use Rattle.lists.specs.Clear.{clearOn}
-use Rattle.lists.proofs.Clearing.{clear-none, clear-turn, clear-stops}
-use Rattle.lists.proofs.clear.clear.Statement.{statement}
-use Rattle.lists.proofs.clear.clear.Tie as tie
+use Rattle.walks.specs.Clear.{clearOn}
+use Rattle.walks.proofs.Clearing.{clear-none, clear-turn, clear-stops}
+use Rattle.walks.proofs.clear.clear.Statement.{statement}
+use Rattle.walks.proofs.clear.clear.Tie as tie
 
 abbrev Inv-loop : tie.InvT-loop
 Inv-loop links₀ values₀ count entry₀ rest₀ left₀ links values entry rest left =
