@@ -1,0 +1,202 @@
+/* Flailreeve's C face: lists for PIN pad firmware in one pool of memory that the firmware lends. Ten calls.
+ *
+ * For C11 and C++17. The functions stand in an archive, libabi.a, for x86-64 Linux: it is what the proved crate `abi` is
+ * compiled to, it uses no heap and keeps nothing between calls, and of the C library it asks for memset, memcpy, memmove,
+ * memcmp and bcmp at most. docs/SPEED.md has the instructions, the bytes of code and the stack of each call.
+ *
+ * THE POOL is two buffers of equal length N: a 16-bit link and a 64-bit value for each slot. N runs from 2 to 4,096. Slot 0
+ * is the null and never holds an element; slots 1 to N-1 do. A slot that no list holds is free, and a free slot's value
+ * is 0: a value that is popped or cleared is gone from the pool when the call returns.
+ *
+ * THE BOOK is 34 words that say where the lists begin and end, and how much each list is owed and may have. A list that
+ * holds less than its share is never refused a push for want of room; no list holds more than its limit. The firmware may
+ * look at the book and copy it. It makes one by flailreeve_setup, and changes it by the other calls alone.
+ *
+ * THE NUMBER. Every call returns one: 0 when the call was done, else the reason why it was refused. The tests run in the
+ * order of the numbers, and the first that applies is given. A REFUSED CALL writes 0 to `length`, `value` or `count`, where
+ * it has one, and changes nothing else: not a link, not a value, not the book, not the buffer of a read.
+ *
+ * WHAT THE CALLER OWES. A call believes these, and no proof can see them; if one does not hold, the behaviour is undefined.
+ * - No pointer is null, not even with a length of 0, and each is aligned: to 2 bytes for links, shares, limits, the book,
+ *   `length` and `count`; to 8 bytes for values, `value` and `out`.
+ * - Lengths are true. They count cells, not bytes, and that many cells can be read, and written where the pointer is not to
+ *   const memory.
+ * - No two buffers of one call overlap; `length`, `value`, `count` and the book are buffers too.
+ * - No other thread and no interrupt handler touches these buffers while the call runs.
+ * WHAT THE CALLER DOES NOT OWE. What the cells and the book hold may be anything: every call but setup checks the whole pool
+ * before it acts, and refuses a damaged one by 3. So a call takes time in proportion to N. List numbers, places and
+ * values may be anything too. Every call ends. */
+#ifndef FLAILREEVE_H
+#define FLAILREEVE_H
+
+#include <stddef.h>
+#include <stdint.h>
+
+#ifdef __cplusplus
+extern "C" {
+#endif
+
+/* The sizes of document 01. */
+enum {
+    FLAILREEVE_BOOK_LISTS = 8,       /* lists that a book has room for */
+    FLAILREEVE_SMALLEST_POOL = 2,    /* the smallest N */
+    FLAILREEVE_LARGEST_POOL = 4096   /* the largest N */
+};
+
+/* The numbers that a call returns. */
+enum {
+    FLAILREEVE_DONE = 0,     /* done */
+    FLAILREEVE_SIZES = 1,    /* the lengths of links and values differ, or N is under 2 or over 4,096 */
+    FLAILREEVE_RULES = 2,    /* setup's lists, shares or limits break the rules of the book */
+    FLAILREEVE_UNSOUND = 3,  /* the pool and its book are not sound: something damaged them */
+    FLAILREEVE_NO_LIST = 4,  /* the list number is not below the number of lists */
+    FLAILREEVE_EMPTY = 5,    /* the list is empty */
+    FLAILREEVE_LIMIT = 6,    /* the list's length equals its limit */
+    FLAILREEVE_KEPT = 7,     /* the list is under its limit but has its share, and the free slots are no more than what
+                                the other lists still lack of theirs */
+    FLAILREEVE_BUFFER = 8    /* `at` is past the buffer's end, or there are fewer places from `at` than the list is long */
+};
+
+/* One list of the book. */
+struct flailreeve_list {
+    uint16_t head;   /* its first slot, 0 when it is empty */
+    uint16_t tail;   /* its last slot, 0 when it is empty */
+    uint16_t share;  /* so many slots are kept for it */
+    uint16_t limit;  /* and more than so many it never has */
+};
+
+/* The book: 34 words, no padding. */
+struct flailreeve_book {
+    uint16_t lists;                                      /* how many lists there are, 1 to 8 */
+    struct flailreeve_list list[FLAILREEVE_BOOK_LISTS];  /* entries from `lists` on are all 0 */
+    uint16_t free_head;                                  /* the first free slot, 0 when none is free */
+};
+
+/* The archive was compiled for this layout. */
+#ifdef __cplusplus
+#define FLAILREEVE_HOLDS(fact, words) static_assert(fact, words)
+#else
+#define FLAILREEVE_HOLDS(fact, words) _Static_assert(fact, words)
+#endif
+FLAILREEVE_HOLDS(sizeof(void *) == 8 && sizeof(size_t) == 8, "the archive is for x86-64: pointers and sizes of 8 bytes");
+FLAILREEVE_HOLDS(sizeof(uint16_t) == 2 && sizeof(uint64_t) == 8, "a byte has 8 bits");
+FLAILREEVE_HOLDS(sizeof(struct flailreeve_list) == 8, "a list of the book is four words");
+FLAILREEVE_HOLDS(offsetof(struct flailreeve_list, head) == 0, "the head is a list's first word");
+FLAILREEVE_HOLDS(offsetof(struct flailreeve_list, tail) == 2, "the tail is a list's second word");
+FLAILREEVE_HOLDS(offsetof(struct flailreeve_list, share) == 4, "the share is a list's third word");
+FLAILREEVE_HOLDS(offsetof(struct flailreeve_list, limit) == 6, "the limit is a list's fourth word");
+FLAILREEVE_HOLDS(sizeof(struct flailreeve_book) == 68, "the book is 34 words");
+FLAILREEVE_HOLDS(offsetof(struct flailreeve_book, lists) == 0, "the number of lists is the book's first word");
+FLAILREEVE_HOLDS(offsetof(struct flailreeve_book, list) == 2, "the lists begin at the book's second word");
+FLAILREEVE_HOLDS(offsetof(struct flailreeve_book, free_head) == 66, "the free head is the book's last word");
+#ifdef __cplusplus
+FLAILREEVE_HOLDS(alignof(struct flailreeve_book) == 2, "the book is aligned as its words are");
+#else
+FLAILREEVE_HOLDS(_Alignof(struct flailreeve_book) == 2, "the book is aligned as its words are");
+#endif
+#undef FLAILREEVE_HOLDS
+
+/* The compiler warns where an answer is not looked at, or where it sees a null pointer: a clear whose refusal nobody
+ * reads has left the block where it was. */
+#if defined(__GNUC__)
+#define FLAILREEVE_CALL __attribute__((warn_unused_result, nonnull))
+#else
+#define FLAILREEVE_CALL
+#endif
+
+/* Setup: makes a pool of free slots and the book of its lists, all empty. What the buffers held before doesn't matter and is
+ * overwritten. `lists` is how many lists there are to be; list k gets shares[k] and limits[k].
+ *
+ * Gives 0: link 0 is 0, links 1 to N-1 are 2, 3, .. and the last 0; every value is 0; the free head is 1.
+ * Gives 1: the lengths differ, or N is under 2 or over 4,096.
+ * Gives 2: `lists` is not 1 to 8, a share is above its limit, a limit is above N-1, the shares add up to more than N-1, or a
+ * share or limit from `lists` on is not 0.
+ * Refused, it leaves links, values and the book as they were. */
+FLAILREEVE_CALL uint16_t flailreeve_setup(uint16_t *links, size_t links_len, uint64_t *values, size_t values_len,
+                                          uint16_t lists, const uint16_t shares[8], const uint16_t limits[8],
+                                          struct flailreeve_book *book);
+
+/* Check: is the pool with its book sound? It changes nothing.
+ *
+ * Gives 0: it is sound. Every slot from 1 to N-1 is in one list or free, once; the links and the book say so; every free
+ * slot's value is 0; the shares and limits hold.
+ * Gives 1: the lengths differ, or N is under 2 or over 4,096.
+ * Gives 3: it is not sound. */
+FLAILREEVE_CALL uint16_t flailreeve_check(const uint16_t *links, size_t links_len, const uint64_t *values,
+                                          size_t values_len, const struct flailreeve_book *book);
+
+/* Length: how many elements a list has. It changes nothing but `*length`.
+ *
+ * Gives 0, and the length in `*length`.
+ * Gives 1, 3: as check.
+ * Gives 4: there is no list of that number.
+ * Refused, it writes 0 to `*length`. */
+FLAILREEVE_CALL uint16_t flailreeve_length(const uint16_t *links, size_t links_len, const uint64_t *values,
+                                           size_t values_len, const struct flailreeve_book *book, uint16_t list,
+                                           uint16_t *length);
+
+/* Push back: a value becomes the last element of a list, in the slot at the free head. Only the new slot, the slot that was
+ * last and, in the book, the list's ends and the free head change.
+ *
+ * Gives 0: the value is in the list.
+ * Gives 1, 3: as check.
+ * Gives 4: there is no list of that number.
+ * Gives 6: the list's length equals its limit.
+ * Gives 7: the list is under its limit but has its share, and the free slots are kept for other lists.
+ * Refused, it changes nothing. */
+FLAILREEVE_CALL uint16_t flailreeve_push_back(uint16_t *links, size_t links_len, uint64_t *values, size_t values_len,
+                                              struct flailreeve_book *book, uint16_t list, uint64_t value);
+
+/* Push front: as push back, at the other end: the value becomes the first element of the list. */
+FLAILREEVE_CALL uint16_t flailreeve_push_front(uint16_t *links, size_t links_len, uint64_t *values, size_t values_len,
+                                               struct flailreeve_book *book, uint16_t list, uint64_t value);
+
+/* Pop back: takes the last element out of a list. Its slot is wiped to 0 and becomes the free head. Only that slot, its
+ * neighbour and, in the book, the list's ends and the free head change.
+ *
+ * Gives 0, and the element in `*value`. Then `*value` is the only copy, and the firmware's to wipe.
+ * Gives 1, 3: as check.
+ * Gives 4: there is no list of that number.
+ * Gives 5: the list is empty.
+ * Refused, it writes 0 to `*value` and changes nothing else. */
+FLAILREEVE_CALL uint16_t flailreeve_pop_back(uint16_t *links, size_t links_len, uint64_t *values, size_t values_len,
+                                             struct flailreeve_book *book, uint16_t list, uint64_t *value);
+
+/* Pop front: as pop back, at the other end: it takes the first element. */
+FLAILREEVE_CALL uint16_t flailreeve_pop_front(uint16_t *links, size_t links_len, uint64_t *values, size_t values_len,
+                                              struct flailreeve_book *book, uint16_t list, uint64_t *value);
+
+/* Read forward: copies a list's elements, first to last, into `out` from place `at` on. The list keeps them. Every other
+ * place of `out` keeps what it held. Reading an empty list at at == out_len is done and writes nothing.
+ *
+ * Gives 0, and how many were written in `*count`.
+ * Gives 1, 3: as check.
+ * Gives 4: there is no list of that number.
+ * Gives 8: at > out_len, or out_len - at is less than the list's length.
+ * Refused, it writes 0 to `*count` and changes nothing else. */
+FLAILREEVE_CALL uint16_t flailreeve_read_forward(const uint16_t *links, size_t links_len, const uint64_t *values,
+                                                 size_t values_len, const struct flailreeve_book *book, uint16_t list,
+                                                 uint64_t *out, size_t out_len, size_t at, uint16_t *count);
+
+/* Read backward: as read forward, last to first. */
+FLAILREEVE_CALL uint16_t flailreeve_read_backward(const uint16_t *links, size_t links_len, const uint64_t *values,
+                                                  size_t values_len, const struct flailreeve_book *book, uint16_t list,
+                                                  uint64_t *out, size_t out_len, size_t at, uint16_t *count);
+
+/* Clear: empties a list, as popping its front until it is empty would. Every slot that it had is wiped to 0 and free. An
+ * empty list is cleared too.
+ *
+ * Gives 0: the list is empty, and no slot holds what it held.
+ * Gives 1, 3: as check.
+ * Gives 4: there is no list of that number.
+ * Refused, it changes nothing: what the list held is still there. */
+FLAILREEVE_CALL uint16_t flailreeve_clear(uint16_t *links, size_t links_len, uint64_t *values, size_t values_len,
+                                          struct flailreeve_book *book, uint16_t list);
+
+#undef FLAILREEVE_CALL
+
+#ifdef __cplusplus
+}
+#endif
+
+#endif

@@ -1,0 +1,26 @@
+/* The header compiles as C11 by itself and twice, and declares the ten functions as they are called. */
+#include "flailreeve.h"
+#include "flailreeve.h"
+
+typedef uint16_t links_t;
+typedef uint64_t values_t;
+typedef struct flailreeve_book book_t;
+
+uint16_t (*const setup_is)(links_t *, size_t, values_t *, size_t, uint16_t, const uint16_t *, const uint16_t *, book_t *) =
+    flailreeve_setup;
+uint16_t (*const check_is)(const links_t *, size_t, const values_t *, size_t, const book_t *) = flailreeve_check;
+uint16_t (*const length_is)(const links_t *, size_t, const values_t *, size_t, const book_t *, uint16_t, uint16_t *) =
+    flailreeve_length;
+uint16_t (*const pushes_are[2])(links_t *, size_t, values_t *, size_t, book_t *, uint16_t, uint64_t) = {
+    flailreeve_push_back, flailreeve_push_front};
+uint16_t (*const pops_are[2])(links_t *, size_t, values_t *, size_t, book_t *, uint16_t, uint64_t *) = {
+    flailreeve_pop_back, flailreeve_pop_front};
+uint16_t (*const reads_are[2])(const links_t *, size_t, const values_t *, size_t, const book_t *, uint16_t, uint64_t *,
+                               size_t, size_t, uint16_t *) = {flailreeve_read_forward, flailreeve_read_backward};
+uint16_t (*const clear_is)(links_t *, size_t, values_t *, size_t, book_t *, uint16_t) = flailreeve_clear;
+
+/* The numbers of document 01. */
+_Static_assert(FLAILREEVE_DONE == 0 && FLAILREEVE_SIZES == 1 && FLAILREEVE_RULES == 2 && FLAILREEVE_UNSOUND == 3 &&
+                   FLAILREEVE_NO_LIST == 4 && FLAILREEVE_EMPTY == 5 && FLAILREEVE_LIMIT == 6 && FLAILREEVE_KEPT == 7 &&
+                   FLAILREEVE_BUFFER == 8,
+               "the numbers are those of document 01");

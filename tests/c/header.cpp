@@ -1,0 +1,31 @@
+// The header compiles as C++17 by itself and twice, with C names, and declares the ten functions as they are called.
+#include "flailreeve.h"
+#include "flailreeve.h"
+
+#include <type_traits>
+
+using links_t = uint16_t;
+using values_t = uint64_t;
+using book_t = flailreeve_book;
+using half = uint16_t;
+using size = size_t;
+
+using setup_t = half(links_t *, size, values_t *, size, half, const half *, const half *, book_t *);
+using check_t = half(const links_t *, size, const values_t *, size, const book_t *);
+using length_t = half(const links_t *, size, const values_t *, size, const book_t *, half, half *);
+using push_t = half(links_t *, size, values_t *, size, book_t *, half, uint64_t);
+using pop_t = half(links_t *, size, values_t *, size, book_t *, half, uint64_t *);
+using read_t = half(const links_t *, size, const values_t *, size, const book_t *, half, uint64_t *, size, size, half *);
+using clear_t = half(links_t *, size, values_t *, size, book_t *, half);
+
+[[maybe_unused]] static setup_t *const setup_is = flailreeve_setup;
+[[maybe_unused]] static check_t *const check_is = flailreeve_check;
+[[maybe_unused]] static length_t *const length_is = flailreeve_length;
+[[maybe_unused]] static push_t *const push_back_is = flailreeve_push_back;
+[[maybe_unused]] static push_t *const push_front_is = flailreeve_push_front;
+[[maybe_unused]] static pop_t *const pop_back_is = flailreeve_pop_back;
+[[maybe_unused]] static pop_t *const pop_front_is = flailreeve_pop_front;
+[[maybe_unused]] static read_t *const read_forward_is = flailreeve_read_forward;
+[[maybe_unused]] static read_t *const read_backward_is = flailreeve_read_backward;
+[[maybe_unused]] static clear_t *const clear_is = flailreeve_clear;
+static_assert(std::is_standard_layout<book_t>::value && std::is_trivially_copyable<book_t>::value, "the book is plain data");

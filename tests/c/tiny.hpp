@@ -1,0 +1,196 @@
+// Every tiny pool: the check is held against the set of all pools that have sequences, made by listing the sequences.
+//
+// Each way to put the slots 1 to N-1 in order and cut them into L lists and the free slots is written down as cells. These
+// are all the sound pools there are; nothing is walked. Then every choice of links below 8, heads, tails and free head is
+// handed to the check.
+#pragma once
+
+#include <algorithm>
+#include <numeric>
+#include <unordered_map>
+
+#include "ground.hpp"
+
+class Tiny {
+public:
+    unsigned long pools = 0, sound_pools = 0, by_model = 0;
+
+    // All pools of n slots and these lists; shares and limits are one for each list. `every` n-th pool goes to the model too.
+    void all(std::size_t slots, const std::vector<std::uint16_t> &shares, const std::vector<std::uint16_t> &limits,
+             unsigned long every)
+    {
+        n = slots;
+        share = shares;
+        limit = limits;
+        list_sound_pools();
+        const unsigned all_but_null = (1u << n) - 2;
+        for (unsigned mask = 0; mask < 1u << n; mask++)
+            if (share.size() == 1 || mask == 0 || mask == all_but_null)
+                all_cells(mask, 0, every);
+        all_cells(0, 1, every);
+        for (const model::Queues &q : shapes)
+            call_everything(q);
+    }
+
+private:
+    std::size_t n = 0;
+    std::vector<std::uint16_t> share, limit;
+    std::vector<model::Queues> shapes;
+    std::unordered_map<std::uint64_t, unsigned> free_of;  // the cells of each sound pool, and which of its slots are free
+    model::Memory m;
+    Ground ground;
+
+    // Links and book in one number: 3 bits are enough for each.
+    std::uint64_t key(const std::uint16_t *links, const flailreeve_book &book) const
+    {
+        std::uint64_t k = links[0];
+        for (std::size_t slot = 1; slot < n; slot++)
+            k = k << 3 | links[slot];
+        for (std::size_t i = 0; i < share.size(); i++)
+            k = k << 6 | static_cast<unsigned>(book.list[i].head << 3) | book.list[i].tail;
+        return k << 3 | book.free_head;
+    }
+
+    void list_sound_pools()
+    {
+        std::vector<std::uint16_t> order(n - 1);
+        std::iota(order.begin(), order.end(), static_cast<std::uint16_t>(1));
+        shapes.clear();
+        free_of.clear();
+        do {
+            model::Queues q;
+            q.n = n;
+            q.share = share;
+            q.limit = limit;
+            cut(order, 0, q);
+        } while (std::next_permutation(order.begin(), order.end()));
+    }
+
+    // The slots from `at` on are cut into the lists that are still to come, and the rest is free.
+    void cut(const std::vector<std::uint16_t> &order, std::size_t at, const model::Queues &so_far)
+    {
+        if (so_far.list.size() == share.size()) {
+            model::Queues q = so_far;
+            q.free.assign(order.begin() + static_cast<long>(at), order.end());
+            keep(q);
+            return;
+        }
+        for (std::size_t end = at; end <= order.size(); end++) {
+            model::Queues q = so_far;
+            q.list.emplace_back();
+            for (std::size_t i = at; i < end; i++)
+                q.list.back().push_back({order[i], 0});
+            cut(order, end, q);
+        }
+    }
+
+    void keep(const model::Queues &q)
+    {
+        unsigned free = 0;
+        for (std::size_t k = 0; k < q.list.size(); k++)
+            if (q.list[k].size() > q.limit[k])
+                return;
+        if (model::lacks(q) > q.free.size())
+            return;
+        for (std::uint16_t slot : q.free)
+            free |= 1u << slot;
+        model::write_down(q, m);
+        if (!free_of.emplace(key(m.links.data(), m.book), free).second)
+            fail("two different sequences fit one pool of %zu slots", n);
+        shapes.push_back(q);
+    }
+
+    // What the check is lent, with guard words between the parts.
+    struct Small {
+        std::uint64_t guard0;
+        std::uint64_t values[4];
+        std::uint64_t guard1;
+        std::uint16_t links[4];
+        std::uint64_t guard2;
+        flailreeve_book book;
+        std::uint16_t guard3[2];
+    };
+    Small small = {};
+
+    // Counts through links, heads, tails and the free head. A value that is not 0 stands in each slot of the mask.
+    void all_cells(unsigned mask, std::uint16_t null_link, unsigned long every)
+    {
+        std::vector<std::uint16_t *> digit;
+        std::vector<std::uint16_t> top;
+        std::memset(&small, 0xd6, sizeof small);
+        small.book = {};
+        small.book.lists = static_cast<std::uint16_t>(share.size());
+        for (std::size_t slot = 0; slot < n; slot++) {
+            small.values[slot] = mask >> slot & 1 ? 0x100000000u + slot : 0;
+            small.links[slot] = slot == 0 ? null_link : 0;
+        }
+        for (std::size_t slot = 1; slot < n; slot++) {
+            digit.push_back(&small.links[slot]);
+            top.push_back(7);
+        }
+        for (std::size_t k = 0; k < share.size(); k++) {
+            small.book.list[k].share = share[k];
+            small.book.list[k].limit = limit[k];
+            digit.push_back(&small.book.list[k].head);
+            digit.push_back(&small.book.list[k].tail);
+            top.insert(top.end(), 2, static_cast<std::uint16_t>(n));
+        }
+        digit.push_back(&small.book.free_head);
+        top.push_back(static_cast<std::uint16_t>(n));
+        for (bool more = true; more;) {
+            std::size_t i = 0;
+            one(mask, every);
+            while (i < digit.size() && *digit[i] == top[i])
+                *digit[i++] = 0;
+            more = i < digit.size();
+            if (more)
+                ++*digit[i];
+        }
+    }
+
+    void one(unsigned mask, unsigned long every)
+    {
+        std::uint64_t cells = key(small.links, small.book);
+        auto found = free_of.find(cells);
+        bool sound = found != free_of.end() && (mask & (found->second | 1u)) == 0;
+        Small before = small;
+        std::uint16_t got = flailreeve_check(small.links, n, small.values, n, &small.book);
+        made++;
+        pools++;
+        sound_pools += sound;
+        reached[model::check][got < model::numbers ? got : 0]++;
+        if (got != (sound ? 0 : 3))
+            fail("check gave %u for %s pool of %zu slots", got, sound ? "a sound" : "an unsound", n);
+        if (std::memcmp(&before, &small, sizeof small) != 0)
+            fail("check changed a pool of %zu slots, its book or a guard word", n);
+        if (pools % every == 0) {
+            by_model++;
+            m.links.assign(small.links, small.links + n);
+            m.values.assign(small.values, small.values + n);
+            m.book = small.book;
+            if (model::sound(m) != sound)
+                fail("the model's own definition is wrong about a pool of %zu slots", n);
+        }
+    }
+
+    // Every call on a sound pool, with every list number up to one too many and each place of a buffer up to two too many.
+    void call_everything(model::Queues q)
+    {
+        for (auto &list : q.list)
+            for (model::Element &e : list)
+                e.value = 0x0101010101010101u * e.slot;
+        model::write_down(q, m);
+        m.out.assign(n, 77);
+        m.word = 99;
+        for (int c = model::check; c <= model::clear; c++) {
+            model::Ask ask;
+            ask.call = static_cast<model::Call>(c);
+            ask.value = 0xfeedfeedfeedfeedu;
+            for (ask.list = 0; ask.list <= share.size(); ask.list++)
+                for (ask.at = 0; ask.at <= (c == model::read_forward || c == model::read_backward ? n + 2 : 0); ask.at++) {
+                    ground.place = static_cast<Place>(ask.at % 3);
+                    ground.run(ask, m);
+                }
+        }
+    }
+};
