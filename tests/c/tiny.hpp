@@ -27,7 +27,8 @@ public:
         for (unsigned mask = 0; mask < 1u << n; mask++)
             if (share.size() == 1 || mask == 0 || mask == all_but_null)
                 all_cells(mask, 0, every);
-        all_cells(0, 1, every);
+        if (n < 4)
+            all_cells(0, 1, every);
         for (const model::Queues &q : shapes)
             call_everything(q);
     }
