@@ -1,8 +1,8 @@
 /* Flailreeve's C face: lists for PIN pad firmware in one pool of memory that the firmware lends. Ten calls.
  *
- * For C11 and C++17. The functions stand in an archive, libabi.a, for x86-64 Linux: it is what the proved crate `abi` is
- * compiled to, it uses no heap and keeps nothing between calls, and of the C library it asks for memset, memcpy, memmove,
- * memcmp and bcmp at most. docs/SPEED.md has the instructions, the bytes of code and the stack of each call.
+ * For C11 and C++17. The functions stand in an archive, libabi.a, for x86-64 Linux; tools/archive builds it and prints its
+ * path. It is what the proved crate `abi` is compiled to, uses no heap, keeps nothing between calls, and asks of the C library
+ * for memset, memcpy, memmove, memcmp and bcmp at most. docs/SPEED.md has the cost, the code and the stack of each call.
  *
  * THE POOL is two buffers of equal length N: a 16-bit link and a 64-bit value for each slot. N runs from 2 to 4,096. Slot 0
  * is the null and never holds an element; slots 1 to N-1 do. A slot that no list holds is free, and a free slot's value
@@ -147,14 +147,16 @@ FLAILREEVE_CALL uint16_t flailreeve_length(const uint16_t *links, size_t links_l
 FLAILREEVE_CALL uint16_t flailreeve_push_back(uint16_t *links, size_t links_len, uint64_t *values, size_t values_len,
                                               struct flailreeve_book *book, uint16_t list, uint64_t value);
 
-/* Push front: as push back, at the other end: the value becomes the first element of the list. */
+/* Push front: as push back, at the other end: the value becomes the first element of the list, and the slot that was first
+ * changes. Gives 0, 1, 3, 4, 6 or 7 as push back does; refused, it changes nothing. */
 FLAILREEVE_CALL uint16_t flailreeve_push_front(uint16_t *links, size_t links_len, uint64_t *values, size_t values_len,
                                                struct flailreeve_book *book, uint16_t list, uint64_t value);
 
 /* Pop back: takes the last element out of a list. Its slot is wiped to 0 and becomes the free head. Only that slot, its
  * neighbour and, in the book, the list's ends and the free head change.
  *
- * Gives 0, and the element in `*value`. Then `*value` is the only copy, and the firmware's to wipe.
+ * Gives 0, and the element in `*value`. No slot holds it any more. `*value` is the firmware's to wipe, and so is the dead
+ * stack below the caller, where a pop may leave a copy (docs/SPEED.md has the count).
  * Gives 1, 3: as check.
  * Gives 4: there is no list of that number.
  * Gives 5: the list is empty.
@@ -162,7 +164,8 @@ FLAILREEVE_CALL uint16_t flailreeve_push_front(uint16_t *links, size_t links_len
 FLAILREEVE_CALL uint16_t flailreeve_pop_back(uint16_t *links, size_t links_len, uint64_t *values, size_t values_len,
                                              struct flailreeve_book *book, uint16_t list, uint64_t *value);
 
-/* Pop front: as pop back, at the other end: it takes the first element. */
+/* Pop front: as pop back, at the other end: it takes the first element. Gives 0, 1, 3, 4 or 5 as pop back does; refused, it
+ * writes 0 to `*value` and changes nothing else. */
 FLAILREEVE_CALL uint16_t flailreeve_pop_front(uint16_t *links, size_t links_len, uint64_t *values, size_t values_len,
                                               struct flailreeve_book *book, uint16_t list, uint64_t *value);
 
@@ -178,7 +181,8 @@ FLAILREEVE_CALL uint16_t flailreeve_read_forward(const uint16_t *links, size_t l
                                                  size_t values_len, const struct flailreeve_book *book, uint16_t list,
                                                  uint64_t *out, size_t out_len, size_t at, uint16_t *count);
 
-/* Read backward: as read forward, last to first. */
+/* Read backward: as read forward, last to first. Gives 0, 1, 3, 4 or 8 as read forward does; refused, it writes 0 to `*count`
+ * and changes nothing else. */
 FLAILREEVE_CALL uint16_t flailreeve_read_backward(const uint16_t *links, size_t links_len, const uint64_t *values,
                                                   size_t values_len, const struct flailreeve_book *book, uint16_t list,
                                                   uint64_t *out, size_t out_len, size_t at, uint16_t *count);
@@ -186,7 +190,7 @@ FLAILREEVE_CALL uint16_t flailreeve_read_backward(const uint16_t *links, size_t 
 /* Clear: empties a list, as popping its front until it is empty would. Every slot that it had is wiped to 0 and free. An
  * empty list is cleared too.
  *
- * Gives 0: the list is empty, and no slot holds what it held.
+ * Gives 0: the list is empty, and no slot holds what it held; nor does the dead stack below the caller (docs/SPEED.md).
  * Gives 1, 3: as check.
  * Gives 4: there is no list of that number.
  * Refused, it changes nothing: what the list held is still there. */

@@ -47,11 +47,11 @@ static bool keeps_rules(const struct flailreeve_book *book, size_t n)
 static bool walk_list(const uint16_t *links, size_t n, uint8_t *met, const struct flailreeve_list *list, size_t *length)
 {
     size_t many = 0;
-    uint16_t last = 0;
-    uint16_t slot = list->head;
+    size_t last = 0;
+    size_t slot = list->head;
 
     while (slot != 0) {
-        uint16_t next;
+        size_t next;
 
         if (slot >= n || met[slot])
             return false;
@@ -69,7 +69,7 @@ static bool walk_list(const uint16_t *links, size_t n, uint8_t *met, const struc
 static bool walk_free(const uint16_t *links, const uint64_t *values, size_t n, uint8_t *met, uint16_t head, size_t *length)
 {
     size_t many = 0;
-    uint16_t slot = head;
+    size_t slot = head;
 
     while (slot != 0) {
         if (slot >= n || met[slot] || values[slot] != 0)

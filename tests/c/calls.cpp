@@ -337,7 +337,7 @@ int main(int argc, char **argv)
     now("the table of numbers");
     if (!only)
         table();
-    std::printf("%lu calls, %lu cells compared, %lu refused calls on memory that cannot be written\n", made, cells_compared,
+    std::printf("%lu calls, %lu cells compared, %lu calls on memory that cannot be written\n", made, cells_compared,
                 never_written);
     return 0;
 }

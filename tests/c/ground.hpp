@@ -11,7 +11,7 @@
 inline unsigned long reached[model::calls][model::numbers];
 inline unsigned long made;            // calls made
 inline unsigned long cells_compared;  // cells, words and places compared with the model's
-inline unsigned long never_written;   // refused calls made on memory that cannot be written
+inline unsigned long never_written;   // calls made on memory that cannot be written
 
 // A call that touches memory it was not lent, or writes to what it may only read, ends here.
 inline void on_fault(int)
@@ -35,7 +35,7 @@ inline void catch_faults()
 class Ground {
 public:
     // Makes the call on a copy of m and compares. With `locked`, a call that the model refuses finds links, values, the book
-    // and the buffer in memory that cannot be written.
+    // and the buffer in memory that cannot be written; and one that only reads finds links, values and the book so.
     std::uint16_t run(const model::Ask &ask, const model::Memory &m, bool locked = false)
     {
         model::Memory want = m;
@@ -48,12 +48,13 @@ public:
     void run(const model::Ask &ask, const model::Memory &m, const model::Memory &want, std::uint16_t number, bool locked = false)
     {
         lay(ask, m);
-        bool lock = locked && number != 0;
+        bool refused = number != 0;
+        bool lock = locked && (refused || only_reads(ask.call));
         if (lock)
-            protect(true);
+            protect(true, refused);
         std::uint16_t got = call(ask);
         if (lock)
-            protect(false);
+            protect(false, refused);
         never_written += lock;
         made++;
         if (got != number)
@@ -87,12 +88,18 @@ private:
         limits.put(ask.limits, 8, place);
     }
 
-    void protect(bool on)
+    static bool only_reads(model::Call call)
+    {
+        return call == model::check || call == model::length || call == model::read_forward || call == model::read_backward;
+    }
+
+    void protect(bool on, bool buffer_too)
     {
         on ? links.read_only() : links.writable();
         on ? values.read_only() : values.writable();
         on ? book.read_only() : book.writable();
-        on ? out.read_only() : out.writable();
+        if (buffer_too)
+            on ? out.read_only() : out.writable();
     }
 
     std::uint16_t call(const model::Ask &a)
