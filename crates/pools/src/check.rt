@@ -187,16 +187,14 @@ fn lowest_unmet(met: &[u8], size: usize) -> usize
     requires { ⌜ (0 < size) × (size ≤ 4096) ⌝ }
     ensures { λ r. ⌜ r ≡ lowestUnmet (now (met .entry)) 1 (size - 1) ⌝ }
 {
-    let mut slot: u16 = 1;
-    let mut place: usize = 1;
-    while place < size {
+    let mut slot: usize = 1;
+    while slot < size {
         if !walks::walk::is_met(met, slot) {
-            return place;
+            return slot;
         }
         slot += 1;
-        place += 1;
     }
-    place
+    slot
 }
 
 // Rules 12 to 15, once every list was walked and the idle chain too.

@@ -1,5 +1,5 @@
 -- A walk on its way, for the invariant of a loop that walks: the slots passed so far, and the path from here.
-use mathlib.Core.Path.{_≡_, refl, sym, ap, _∙_}
+use mathlib.Core.Path.{_≡_, refl, sym, ap, subst, _∙_}
 use mathlib.Core.Logic.{_≢_}
 use mathlib.Core.Bool.{Bool, true, false}
 use mathlib.Core.List.{List, [], _∷_, _++_, append-assoc, append-nil}
@@ -66,6 +66,10 @@ module _ (onward : ℕ → ℕ → ℕ) (links : List ℕ) where
 
   pub going-start : (start : List ℕ) (head : ℕ) → Going start head [] start head 0
   going-start start head = record { path = refl; counted = refl; marked = refl; left = omega arith }
+
+  -- the same walk, from a start that is the same
+  pub going-from : {start : List ℕ} {head head′ : ℕ} {passed met : List ℕ} {slot many : ℕ} → head ≡ head′ → Going start head passed met slot many → Going start head′ passed met slot many
+  going-from {start} {passed = passed} {met = met} {slot = slot} {many = many} e = subst (λ h. Going start h passed met slot many) e
 
 -- the slot is passed, or the walk ends before it
 module _ {onward : ℕ → ℕ → ℕ} {links start : List ℕ} {head : ℕ} {passed met : List ℕ} {slot many : ℕ} (g : Going onward links start head passed met slot many) where

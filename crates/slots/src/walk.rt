@@ -29,14 +29,14 @@ pub fn walk_idle(links: &[u16], values: &[u64], met: &mut [u8], free: Free) -> I
                 unwiped,
             };
         }
-        if crate::met::is_met(met, slot) {
+        if crate::met::is_met(met, i) {
             return IdleWalk {
                 ok: false,
                 length,
                 unwiped,
             };
         }
-        crate::met::mark(met, slot);
+        crate::met::mark(met, i);
         unwiped = gather(values, slot, unwiped);
         length += 1;
         slot = links[i];

@@ -19,25 +19,24 @@ pub struct LiveWalk {
 pub fn walk_live(links: &[u16], met: &mut [u8], list: Entry) -> LiveWalk
     ensures { λ r. ⌜ LiveWalked (now (links .entry)) (now (met .entry)) list r (now (met .exit)) ⌝ }
 {
-    let mut slot = list.head;
-    let mut last = Book::NULL;
+    let mut slot = books::wide(list.head);
+    let mut last: usize = 0;
     let mut length: usize = 0;
-    while slot != Book::NULL {
-        let i = books::wide(slot);
-        if links.len() <= i {
+    while slot != 0 {
+        if links.len() <= slot {
             return LiveWalk { ok: false, length };
         }
         if slots::met::is_met(met, slot) {
             return LiveWalk { ok: false, length };
         }
         slots::met::mark(met, slot);
-        let next = links[i] ^ last;
+        let next = books::wide(links[slot]) ^ last;
         last = slot;
         slot = next;
         length += 1;
     }
     LiveWalk {
-        ok: last == list.tail,
+        ok: last == books::wide(list.tail),
         length,
     }
 }
@@ -50,7 +49,7 @@ pub fn walk_idle(links: &[u16], values: &[u64], met: &mut [u8], free: Free) -> I
 }
 
 // Was the slot met?
-pub fn is_met(met: &[u8], slot: u16) -> bool
+pub fn is_met(met: &[u8], slot: usize) -> bool
     ensures { λ r. ⌜ r ≡ isMetOf (now (met .entry)) slot ⌝ }
 {
     slots::met::is_met(met, slot)

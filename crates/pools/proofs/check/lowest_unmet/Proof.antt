@@ -1,5 +1,5 @@
 -- `pools::check::lowest_unmet`: the lowest slot from here on is the lowest from 1 on, since every slot before was met.
-use mathlib.Core.Path.{_≡_, refl, sym, ap, _∙_}
+use mathlib.Core.Path.{_≡_, refl, sym, _∙_}
 use Prim.Native.Nat.{_-_, _≤_}
 use native.Mathlib.Omega.{arith}
 use denote.Ref.{now}
@@ -12,17 +12,17 @@ use Rattle.pools.proofs.check.lowest_unmet.Statement.{statement}
 use Rattle.pools.proofs.check.lowest_unmet.Tie as tie
 
 abbrev Inv-loop : tie.InvT-loop
-Inv-loop met size slot₀ place₀ slot place = (lowestUnmet met place (size - place) ≡ lowestUnmet met 1 (size - 1)) × (slot ≡ place) × (1 ≤ place) × (place ≤ size)
+Inv-loop met size slot₀ slot = (lowestUnmet met slot (size - slot) ≡ lowestUnmet met 1 (size - 1)) × (1 ≤ slot) × (slot ≤ size)
 
 abbrev μ-loop : tie.MeasureT-loop
-μ-loop met size slot₀ place₀ slot place = size - place
+μ-loop met size slot₀ slot = size - slot
 
 -- the test is of the slot at this place
-tested : (c : tie.After-is-met Inv-loop μ-loop) → isMetOf (now (c .before .before .before .before .args .met)) (c .before .before .loop .place) ≡ c .is-met .result
-tested c = ap (isMetOf (now (c .before .before .before .before .args .met))) (sym (c .before .before .loop .inv .1)) ∙ sym (c .is-met .ensures)
+tested : (c : tie.After-is-met Inv-loop μ-loop) → isMetOf (now (c .before .before .before .before .args .met)) (c .before .before .loop .slot) ≡ c .is-met .result
+tested c = sym (c .is-met .ensures)
 
 loop-holds : tie.Need-loop-holds Inv-loop μ-loop
-loop-holds c = (refl, refl, omega arith, omega arith)
+loop-holds c = (refl, omega arith, omega arith)
 
 returns : tie.Need-returns Inv-loop μ-loop
 returns c =
@@ -31,7 +31,6 @@ returns c =
 loop-again : tie.Need-loop-again Inv-loop μ-loop
 loop-again c = (
   lowest-next _ _ _ (c .before .before .loop-test .taken) (tested (c .before) ∙ not-false (c .before .is-met .result) (c .if1 .left)) ∙ c .before .before .before .loop .inv .0,
-  omega (arith, c .before .before .before .loop .inv .1),
   omega arith,
   omega arith,
 )
@@ -48,7 +47,6 @@ lowest-unmet-spec =
     loop-holds
     (λ c. search needs)
     returns
-    (λ c. search needs)
     (λ c. search needs)
     (λ c. search needs)
     loop-again

@@ -23,6 +23,15 @@ Inv-loop links values met₀ slot₀ many₀ unwiped₀ met slot many unwiped =
 abbrev μ-loop : tie.MeasureT-loop
 μ-loop links values met₀ slot₀ many₀ unwiped₀ met slot many unwiped = unmet met
 
+-- the test is of the slot itself
+sees : (c : tie.After-is-met Inv-loop μ-loop) → isMetOf (c .before .before .before .before .before .loop .met) (c .before .before .before .before .before .loop .slot) ≡ c .is-met .result
+sees c = ap (isMetOf (c .before .before .before .before .before .loop .met)) (sym (c .before .before .before .wide .ensures .0)) ∙ sym (c .is-met .ensures)
+
+-- and so is the mark
+marks : (c : tie.After-mark Inv-loop μ-loop)
+    → c .mark .last .0 ≡ markOf (c .before .before .before .before .before .before .before .before .loop .met) (c .before .before .before .before .before .before .before .before .loop .slot)
+marks c = c .mark .ensures ∙ ap (markOf (c .before .before .before .before .before .before .before .before .loop .met)) (c .before .before .before .before .before .before .wide .ensures .0)
+
 returns : tie.Need-returns Inv-loop μ-loop
 returns c =
     let (passed, g, u) = c .before .before .before .loop .inv in idle-walked g u (going-past g (c .before .before .loop-test .taken) (omega arith))
@@ -31,7 +40,7 @@ returns-2 : tie.Need-returns-2 Inv-loop μ-loop
 returns-2 c =
     let (passed, g, u) = c .before .before .before .before .before .before .loop .inv in
     idle-walked g u
-    (going-met g (c .before .before .before .before .before .loop-test .taken) (omega arith) (sym (c .before .is-met .ensures) ∙ c .if2 .taken))
+    (going-met g (c .before .before .before .before .before .loop-test .taken) (omega arith) (sees (c .before) ∙ c .if2 .taken))
 
 returns-3 : tie.Need-returns-3 Inv-loop μ-loop
 returns-3 c = let (passed, g, u) = c .before .loop .inv in idle-walked g u (going-end g (c .loop-test .left))
@@ -45,7 +54,7 @@ module _ (c : tie.Else2 Inv-loop μ-loop) where
   args = here .before .before .before .before
 
   fresh : isMetOf (here .loop .met) (here .loop .slot) ≡ false
-  fresh = sym (c .before .is-met .ensures) ∙ c .if2 .left
+  fresh = sees (c .before) ∙ c .if2 .left
 
   fewer : suc (unmet (markOf (here .loop .met) (here .loop .slot))) ≡ unmet (here .loop .met)
   fewer = unmet-mark (here .loop .met) (here .loop .slot) fresh
@@ -59,13 +68,13 @@ add-length : tie.Need-add-length Inv-loop μ-loop
 add-length c = omega (arith, going-room (c .before .before .before .before .before .before .before .before .before .before .before .loop .inv .1) (fresh (c .before .before .before .before .before)))
 
 loop-less : tie.Need-loop-less Inv-loop μ-loop
-loop-less c = omega (arith, ap unmet (c .before .before .before .before .mark .ensures), fewer (c .before .before .before .before .before .before))
+loop-less c = omega (arith, ap unmet (marks (c .before .before .before .before)), fewer (c .before .before .before .before .before .before))
 
 loop-again : tie.Need-loop-again Inv-loop μ-loop
 loop-again c =
     let e = c .before .before .before .before .before .before in (
       here e .loop .inv .0 ++ here e .loop .slot ∷ [],
-      going-on (here e .loop .inv .1) (c .before .before .before .before .before .before .before .before .before .before .before .loop-test .taken) (omega arith) (fresh e) (c .before .before .before .before .mark .ensures) (ap (cell (now (args e .args .links))) (c .before .before .before .before .before .before .before .before .before .before .wide .ensures .0)),
+      going-on (here e .loop .inv .1) (c .before .before .before .before .before .before .before .before .before .before .before .loop-test .taken) (omega arith) (fresh e) (marks (c .before .before .before .before)) (ap (cell (now (args e .args .links))) (c .before .before .before .before .before .before .before .before .before .before .wide .ensures .0)),
       c .before .gather .ensures ∙ gathers e,
     )
 

@@ -12,7 +12,7 @@ use Rattle.chains.specs.Chain.{cell, lastOr}
 use Rattle.chains.proofs.Chain.{last-append}
 use Rattle.slots.specs.Met.{isMetOf, markOf, unmet}
 use Rattle.slots.proofs.Seen.{unmet-mark}
-use Rattle.slots.proofs.Going.{Going, going-start, going-on, going-end, going-past, going-met, going-length, going-room}
+use Rattle.slots.proofs.Going.{Going, going-start, going-from, going-on, going-end, going-past, going-met, going-length, going-room}
 use Rattle.walks.specs.Walk.{liveOnward}
 use Rattle.walks.proofs.Walks.{live-walked}
 use Rattle.walks.proofs.walk.walk_live.Statement.{statement}
@@ -25,23 +25,28 @@ Inv-loop links met₀ list slot₀ last₀ many₀ met slot last many =
 abbrev μ-loop : tie.MeasureT-loop
 μ-loop links met₀ list slot₀ last₀ many₀ met slot last many = unmet met
 
+-- the walk on its way from the list's head itself
+from-head : (c : tie.At-loop Inv-loop μ-loop)
+    → Going liveOnward (now (c .before .before .before .before .args .links)) (now (c .before .before .before .before .args .met)) (c .before .before .before .before .args .list .head) (c .loop .inv .0) (c .loop .met) (c .loop .slot) (c .loop .length)
+from-head c = going-from liveOnward _ (c .before .wide .ensures .0) (c .loop .inv .1)
+
 returns : tie.Need-returns Inv-loop μ-loop
-returns c = let (passed, g, l) = c .before .before .before .loop .inv in live-walked g (going-past g (c .before .before .loop-test .taken) (omega arith)) refl
+returns c = let g = from-head (c .before .before) in live-walked g (going-past g (c .before .loop-test .taken) (omega arith)) refl
 
 returns-2 : tie.Need-returns-2 Inv-loop μ-loop
 returns-2 c =
-    let (passed, g, l) = c .before .before .before .before .before .before .loop .inv in
-    live-walked g (going-met g (c .before .before .before .before .before .loop-test .taken) (omega arith) (sym (c .before .is-met .ensures) ∙ c .if2 .taken)) refl
+    let g = from-head (c .before .before .before .before .before) in
+    live-walked g (going-met g (c .before .before .before .before .loop-test .taken) (omega arith) (sym (c .before .is-met .ensures) ∙ c .if2 .taken)) refl
 
 returns-3 : tie.Need-returns-3 Inv-loop μ-loop
 returns-3 c =
-    let (passed, g, l) = c .before .before .loop .inv in
-    live-walked g (going-end g (c .before .loop-test .left)) (ap (λ s. eqb s (c .before .before .before .before .before .args .list .tail)) l)
+    let g = from-head (c .before .before) in
+    live-walked g (going-end g (c .before .loop-test .left)) (ap (λ s. eqb s (c .wide3 .result)) (c .before .before .loop .inv .2) ∙ ap (λ t. eqb (lastOr nullSlot (c .before .before .loop .inv .0)) t) (c .wide3 .ensures .0))
 
 -- the slot is passed
 module _ (c : tie.Else2 Inv-loop μ-loop) where
   abbrev here : tie.At-loop Inv-loop μ-loop
-  here = c .before .before .before .before .before .before
+  here = c .before .before .before .before .before
 
   fresh : isMetOf (here .loop .met) (here .loop .slot) ≡ false
   fresh = sym (c .before .is-met .ensures) ∙ c .if2 .left
@@ -50,18 +55,17 @@ module _ (c : tie.Else2 Inv-loop μ-loop) where
   fewer = unmet-mark (here .loop .met) (here .loop .slot) fresh
 
 add-length : tie.Need-add-length Inv-loop μ-loop
-add-length c = omega (arith, going-room (c .before .before .before .before .before .before .before .before .before .before .before .loop .inv .1) (fresh (c .before .before .before .before .before)))
+add-length c = omega (arith, going-room (c .before .before .before .before .before .before .before .before .before .before .before .loop .inv .1) (fresh (c .before .before .before .before .before .before)))
 
 loop-less : tie.Need-loop-less Inv-loop μ-loop
-loop-less c = omega (arith, ap unmet (c .before .before .before .mark .ensures), fewer (c .before .before .before .before .before))
+loop-less c = omega (arith, ap unmet (c .before .before .before .before .mark .ensures), fewer (c .before .before .before .before .before .before))
 
 loop-again : tie.Need-loop-again Inv-loop μ-loop
 loop-again c =
-    let e = c .before .before .before .before .before in
-    let links = now (c .before .before .before .before .before .before .before .before .before .before .before .before .before .before .args .links) in (
+    let e = c .before .before .before .before .before .before in (
       here e .loop .inv .0 ++ here e .loop .slot ∷ [],
-      going-on (here e .loop .inv .1) (c .before .before .before .before .before .before .before .before .before .before .loop-test .taken) (omega arith) (fresh e) (c .before .before .before .mark .ensures)
-          (ap (λ i. liveOnward (here e .loop .last) (cell links i)) (c .before .before .before .before .before .before .before .before .before .wide .ensures .0) ∙ ap (λ l. liveOnward l (cell links (here e .loop .slot))) (here e .loop .inv .2)),
+      going-on (here e .loop .inv .1) (c .before .before .before .before .before .before .before .before .before .before .loop-test .taken) (omega arith) (fresh e) (c .before .before .before .before .mark .ensures)
+          (ap (liveOnward (here e .loop .last)) (c .wide2 .ensures .0) ∙ ap (λ l. liveOnward l (cell (now (c .before .before .before .before .before .before .before .before .before .before .before .before .before .before .before .args .links)) (here e .loop .slot))) (here e .loop .inv .2)),
       sym (last-append nullSlot (here e .loop .inv .0) (here e .loop .slot ∷ [])),
     )
 
@@ -71,18 +75,20 @@ walk-live-spec =
     (tie.spec
     Inv-loop
     μ-loop
-    (λ c. ([], going-start liveOnward _ _ _, refl))
     (λ c κs. search needs)
-    (λ c. going-length (c .before .before .before .loop .inv .1))
+    (λ c. ([], going-start liveOnward _ _ _, refl))
+    (λ c. going-length (c .before .before .loop .inv .1))
     returns
     (λ c κs. search needs)
-    (λ c. going-length (c .before .before .before .before .before .before .loop .inv .1))
+    (λ c. going-length (c .before .before .before .before .before .loop .inv .1))
     returns-2
     (λ c κs. search needs)
     (λ c. search needs)
     (λ c. search needs)
+    (λ c κs. search needs)
     add-length
     loop-less
     loop-again
+    (λ c κs. search needs)
     (λ c. going-length (c .before .before .loop .inv .1))
     returns-3)
