@@ -1,6 +1,5 @@
 // The walk along a list's chain: each slot that it passes is marked, and the last one is held against the list's tail.
 // And what the slots below have to say of the idle chain and of the slots met, handed up.
-use books::Book;
 use books::Entry;
 use books::Free;
 use slots::walk::IdleWalk;
@@ -16,6 +15,7 @@ pub struct LiveWalk {
 }
 
 // The slots of the list are passed and marked. A slot of N or more, or one that was met, ends the walk before it is passed.
+// A slot is kept as an index here, widened when it is read, since this loop is most of what a call costs; 0 is the null.
 pub fn walk_live(links: &[u16], met: &mut [u8], list: Entry) -> LiveWalk
     ensures { λ r. ⌜ LiveWalked (now (links .entry)) (now (met .entry)) list r (now (met .exit)) ⌝ }
 {
