@@ -13,11 +13,12 @@ use Rattle.shares.specs.declared.Popped.{Popped}
 use Rattle.shares.specs.Numbers.{Given, done, this, later}
 use Rattle.shares.specs.Setup.{setupConditions, setupOf}
 use Rattle.shares.specs.Ten.{pushBackOf, pushFrontOf, popBackOf, popFrontOf}
-use Rattle.shares.specs.Trace.{State, Move, pushBack, pushFront, numberOf, after, Ledger, nothingNoted, notedDone, Trace, begins, goesOn}
+use Rattle.shares.specs.Moves.{State, Move, pushBack, pushFront, numberOf, after}
 use Rattle.shares.specs.View.{Holds, left, leftByPop}
 use Rattle.shares.proofs.Fresh.{setup-given}
-use Rattle.shares.proofs.Traces.{demand-3}
 use Rattle.shares.proofs.Upstream.{setup-empty, push-back-appends, push-front-prepends, pop-back-exactly, pop-back-takes-last, pop-front-exactly, pop-front-takes-first}
+use Rattle.traces.specs.Trace.{Ledger, nothingNoted, notedDone, Trace, begins, goesOn}
+use Rattle.traces.proofs.Traces.{demand-3}
 use Rattle.demo.specs.Demo.{five, pushedOf, goneOf, poppedOf, lineOf, pushedLines, poppedLines, shownOf, sixLines}
 use Rattle.demo.proofs.Played.{back-goes, front-goes, pushed-by, pop-goes, popped-by}
 use Rattle.demo.proofs.Shows.{pops-done}

@@ -11,7 +11,7 @@ use Rattle.pools.specs.Sound.{Shape, SoundBook}
 use Rattle.pools.proofs.Found.{look-tells}
 use Rattle.shares.specs.Calls.{Called, checkCall, pushCall, popCall, clearCall}
 use Rattle.shares.specs.Done.{Refused, OtherEntries}
-use Rattle.shares.specs.Trace.{State, Move, check, askLength, pushBack, pushFront, popBack, popFront, readForward, readBackward, clear, numberOf, after}
+use Rattle.shares.specs.Moves.{State, Move, check, askLength, pushBack, pushFront, popBack, popFront, readForward, readBackward, clear, numberOf, after}
 use Rattle.shares.proofs.Found.{look-number}
 use Rattle.shares.proofs.Outcomes.{length-done, push-refused, push-done, pop-refused, pop-done, clear-refused, clear-done, read-done}
 

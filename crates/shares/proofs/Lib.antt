@@ -1,4 +1,4 @@
--- Laws of the ten calls: when each number is given, what a refused and a done call leave, and demands 2 and 3. Fill, Found and Reached serve the functions' own proofs.
+-- Laws of the ten calls: when each number is given, what a refused and a done call leave, and demand 2. Fill, Found and Reached serve the functions' own proofs.
 pub mod Fill
 pub mod Numbers
 pub mod Fresh
@@ -10,10 +10,7 @@ pub mod Outcomes
 pub mod Plain
 pub mod OneResult
 pub mod Rows
-pub mod Cases
-pub mod Reach
 pub mod Exactly
 pub mod After
-pub mod Traces
 pub mod Tight
 pub mod Upstream

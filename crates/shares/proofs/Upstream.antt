@@ -20,7 +20,7 @@ use Rattle.shares.specs.Calls.{Called, pushCall, popCall, clearCall, rea
 use Rattle.shares.specs.Ten.{checkOf, lengthOf, pushBackOf, pushFrontOf, popBackOf, popFrontOf, readForwardOf, readBackwardOf, clearOf}
 use Rattle.shares.specs.Done.{Refused, OtherEntries, OtherLists, fromEnd}
 use Rattle.shares.specs.View.{View, Holds, left, leftByPop, FreeWiped}
-use Rattle.shares.specs.Trace.{State, Move, numberOf, after}
+use Rattle.shares.specs.Moves.{State, Move, numberOf, after}
 use Rattle.shares.proofs.Effects.{unique-book}
 use Rattle.shares.proofs.Fresh.{setup-sound, setup-keeps}
 use Rattle.shares.proofs.Outcomes.{length-done, push-refused, push-done, pop-refused, pop-done, clear-refused, clear-done, read-done}

@@ -5,7 +5,5 @@ pub mod Calls
 pub mod Ten
 pub mod Done
 pub mod Rows
-pub mod Trace
+pub mod Moves
 pub mod View
-pub mod Cases
-pub mod Reach

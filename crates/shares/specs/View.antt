@@ -11,7 +11,7 @@ use Rattle.lists.specs.Meaning.{contents}
 use Rattle.pools.specs.Sound.{Shape, chainAt, SoundBook}
 use Rattle.shares.specs.declared.Answer.{Answer}
 use Rattle.shares.specs.declared.Popped.{Popped}
-use Rattle.shares.specs.Trace.{State}
+use Rattle.shares.specs.Moves.{State}
 
 -- the pool is sound (upstream: `wf`), list l is one of its lists, and holds the values vs (upstream: `view`)
 pub record View (links values : List ℕ) (b : Book) (l : ℕ) (vs : List ℕ) : Type 0 where

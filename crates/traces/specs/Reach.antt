@@ -5,9 +5,9 @@ use Prim.Native.Nat.{ℕ, zero, suc}
 use lib.Dec.{eqb}
 use lib.ListN.{replicate, take}
 use Rattle.books.specs.Table.{mayGive}
 use Rattle.shares.specs.Setup.{setupOf}
-use Rattle.shares.specs.Trace.{State, Move, check, askLength, pushBack, pushFront, popBack, popFront, readForward, readBackward, clear, numberOf}
-use Rattle.shares.specs.Cases.{twoLists, p1, p3, p9}
+use Rattle.shares.specs.Moves.{State, Move, check, askLength, pushBack, pushFront, popBack, popFront, readForward, readBackward, clear, numberOf}
+use Rattle.traces.specs.Cases.{twoLists, p1, p3, p9}
 
 -- a call by its row, and a number that it gives
 pub record Gives : Type 0 where

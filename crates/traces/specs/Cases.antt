@@ -6,9 +6,9 @@ use lib.Dec.{eqb}
 use lib.ListN.{replicate}
 use Rattle.books.specs.declared.Book.{Book}
 use Rattle.books.specs.Book.{zeroEntry, wordsOf}
 use Rattle.shares.specs.Setup.{setupOf}
 use Rattle.shares.specs.Ten.{popBackOf, popFrontOf}
-use Rattle.shares.specs.Trace.{State, Move, check, askLength, pushBack, pushFront, popBack, popFront, readForward, readBackward, clear, numberOf, after}
+use Rattle.shares.specs.Moves.{State, Move, check, askLength, pushBack, pushFront, popBack, popFront, readForward, readBackward, clear, numberOf, after}
 
 -- a call, and what it must give: the number, the value handed out, 0 for none, and every cell and word afterwards
 pub record Turn : Type 0 where

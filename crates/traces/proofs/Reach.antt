@@ -12,15 +12,16 @@ use Rattle.walks.specs.Clear.{clearOn}
 use Rattle.walks.specs.Read.{valuesAlong}
 use Rattle.pools.specs.Check.{nothingMet, gatherAll, spareFault, idleFault, nullSlotZero, poolFound, checkFound}
 use Rattle.pools.specs.Size.{sizesFit}
 use Rattle.shares.specs.Calls.{lengthCall, clearCall, readCall, checkCall, pushCall, popCall}
 use Rattle.shares.specs.Setup.{freshLink, freshValue, setupOf}
 use Rattle.slots.specs.Met.{isMetOf, markOf, unmet}
 use Rattle.slots.specs.Model.{takeOf, releaseOf}
 use Rattle.slots.specs.Slot.{inPool}
 use Rattle.slots.specs.Walk.{walkOn}
 use Rattle.shares.specs.Numbers.{decided}
-use Rattle.shares.specs.Trace.{State, Ledger, Trace, begins, goesOn, pushBack, pushFront, popFront, clear, numberOf}
-use Rattle.shares.specs.Reach.{shown, callsShown}
+use Rattle.shares.specs.Moves.{State, pushBack, pushFront, popFront, clear, numberOf}
+use Rattle.traces.specs.Trace.{Ledger, Trace, begins, goesOn}
+use Rattle.traces.specs.Reach.{shown, callsShown}
 
 -- one computed test
 pub every-number-shown : callsShown 10 shown ≡ true

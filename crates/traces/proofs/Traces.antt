@@ -21,16 +21,17 @@ use Rattle.lists.specs.Meaning.{joined, contents}
 use Rattle.pools.specs.Sound.{Shape, chainAt, put, joinedUp, lacks, SoundBook}
 use Rattle.pools.proofs.Found.{listed, entry-is, within}
 use Rattle.pools.proofs.Steps.{length-joined}
 use Rattle.shares.specs.Setup.{slotsFrom}
 use Rattle.shares.specs.Calls.{Called}
 use Rattle.shares.specs.Done.{OtherEntries, OtherLists}
-use Rattle.shares.specs.Trace.{State, Move, check, askLength, pushBack, pushFront, popBack, popFront, readForward, readBackward, clear, numberOf, after, Ledger, oneMore, noneAt, heldAt, butLast, butFirst, notedDone, noted, Trace, begins, goesOn, othersLack, Demand3}
+use Rattle.shares.specs.Moves.{State, Move, check, askLength, pushBack, pushFront, popBack, popFront, readForward, readBackward, clear, numberOf, after}
 use Rattle.shares.proofs.Effects.{unique-book}
 use Rattle.shares.proofs.Fresh.{setup-sound, setup-keeps}
 use Rattle.shares.proofs.When.{check-given, length-given, push-given, pop-given, clear-given, read-given}
 use Rattle.shares.proofs.Outcomes.{push-done, pop-done, clear-done}
 use Rattle.shares.proofs.After.{stateOf, left-sound, pushAt, popAt, clearAt, refused-state}
 use Rattle.shares.proofs.Exactly.{not-one-three, push-six, push-seven, push-zero}
+use Rattle.traces.specs.Trace.{Ledger, oneMore, noneAt, heldAt, butLast, butFirst, notedDone, noted, Trace, begins, goesOn, othersLack, Demand3}
 
 -- ---- what the lists lack
 

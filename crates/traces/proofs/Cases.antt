@@ -6,14 +6,14 @@ use Rattle.books.specs.Test.{isFair, isZero, gather, allZero, keepsRules}
 use Rattle.lists.specs.Model.{nearOf, withNear, isBeside, pushEmptyOf, pushBesideOf, pushOf, popOf}
 use Rattle.pools.specs.Check.{nothingMet, gatherAll, spareFault, idleFault, nullSlotZero, poolFound, checkFound}
 use Rattle.pools.specs.Size.{sizesFit}
 use Rattle.shares.specs.Calls.{checkCall, pushCall, popCall}
 use Rattle.shares.specs.Setup.{freshLink, freshValue, setupOf}
 use Rattle.slots.specs.Met.{isMetOf, markOf, unmet}
 use Rattle.slots.specs.Model.{takeOf, releaseOf}
 use Rattle.slots.specs.Slot.{inPool}
 use Rattle.slots.specs.Walk.{walkOn}
 use Rattle.shares.specs.Numbers.{decided}
-use Rattle.shares.specs.Cases.{marked, allPass}
+use Rattle.traces.specs.Cases.{marked, allPass}
 
 -- P1 to P10
 pub marked-pass : allPass marked ≡ true

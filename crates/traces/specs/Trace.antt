@@ -11,50 +11,8 @@ use Rattle.books.specs.Book.{nullSlot, zeroEntry, entryAt, eight}
 use Rattle.chains.specs.Count.{count}
 use Rattle.lists.specs.Meaning.{contents}
 use Rattle.pools.specs.Sound.{Shape, chainAt, joinedUp, lacks, SoundBook}
 use Rattle.shares.specs.Setup.{setupOf}
-use Rattle.shares.specs.Ten.{checkOf, lengthOf, pushBackOf, pushFrontOf, popBackOf, popFrontOf, readForwardOf, readBackwardOf, clearOf}
-
--- the two slices and the newest book
-pub record State : Type 0 where
-  pub links : List ℕ
-  pub values : List ℕ
-  pub book : Book
-
--- one of the nine calls, with any arguments: a list number, a value, a buffer and a place
-pub data Move : Type 0 where
-  check : Move
-  askLength : ℕ → Move
-  pushBack : ℕ → ℕ → Move
-  pushFront : ℕ → ℕ → Move
-  popBack : ℕ → Move
-  popFront : ℕ → Move
-  readForward : ℕ → List ℕ → ℕ → Move
-  readBackward : ℕ → List ℕ → ℕ → Move
-  clear : ℕ → Move
-
--- the number that the call gives
-abbrev pub numberOf : State → Move → ℕ
-numberOf st check = checkOf (st .links) (st .values) (st .book) .number
-numberOf st (askLength l) = lengthOf (st .links) (st .values) (st .book) l .refusal .number
-numberOf st (pushBack l value) = pushBackOf (st .links) (st .values) (st .book) l value .answer .refusal .number
-numberOf st (pushFront l value) = pushFrontOf (st .links) (st .values) (st .book) l value .answer .refusal .number
-numberOf st (popBack l) = popBackOf (st .links) (st .values) (st .book) l .answer .given .refusal .number
-numberOf st (popFront l) = popFrontOf (st .links) (st .values) (st .book) l .answer .given .refusal .number
-numberOf st (readForward l buffer at) = readForwardOf (st .links) (st .values) (st .book) l buffer at .answer .refusal .number
-numberOf st (readBackward l buffer at) = readBackwardOf (st .links) (st .values) (st .book) l buffer at .answer .refusal .number
-numberOf st (clear l) = clearOf (st .links) (st .values) (st .book) l .answer .refusal .number
-
--- what the call leaves. Check, length and the reads are lent the slices to read alone, and return no book
-abbrev pub after : State → Move → State
-after st check = st
-after st (askLength l) = st
-after st (pushBack l value) = let r = pushBackOf (st .links) (st .values) (st .book) l value in record { links = r .links; values = r .values; book = r .answer .book }
-after st (pushFront l value) = let r = pushFrontOf (st .links) (st .values) (st .book) l value in record { links = r .links; values = r .values; book = r .answer .book }
-after st (popBack l) = let r = popBackOf (st .links) (st .values) (st .book) l in record { links = r .links; values = r .values; book = r .answer .book }
-after st (popFront l) = let r = popFrontOf (st .links) (st .values) (st .book) l in record { links = r .links; values = r .values; book = r .answer .book }
-after st (readForward l buffer at) = st
-after st (readBackward l buffer at) = st
-after st (clear l) = let r = clearOf (st .links) (st .values) (st .book) l in record { links = r .links; values = r .values; book = r .answer .book }
+use Rattle.shares.specs.Moves.{State, Move, check, askLength, pushBack, pushFront, popBack, popFront, readForward, readBackward, clear, numberOf, after}
 
 -- "its pushes done" and "its pops done since the setup or its last clear", of each list: how many, and the values pushed less those popped, from the front
 pub record Ledger : Type 0 where
