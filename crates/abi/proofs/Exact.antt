@@ -56,6 +56,9 @@ module _ (links values words : List ℕ) (r : Outcome Called) (f : r .answer .nu
 module _ (links values : List ℕ) where
   -- setup: where it is done, the by-value call's book; where it is refused, the lent book stays, and not the all-zero book
   module _ (lists : ℕ) (shares limits words : List ℕ) where
+    pub setup-number : setupFace links values lists shares limits words .answer .number ≡ setupOf links values lists shares limits .answer .refusal .number
+    setup-number = refl
+
     pub setup-same : setupFace links values lists shares limits words .answer .number ≡ 0
         → SameChange (setupOf links values lists shares limits) (setupFace links values lists shares limits words)
     setup-same e = record { sameNumber = refl; sameBook = kept-done _ words _ e; sameLinks = refl; sameValues = refl }

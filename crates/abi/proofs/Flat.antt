@@ -42,6 +42,10 @@ unfolding four
 many-words [] x = refl
 many-words (e ∷ es) x = ap (λ n. suc (suc (suc (suc n)))) (many-words es x)
 
+-- the first word is how many lists there are
+pub lists-word : (b : Book) → getD (wordsOf b) 0 0 ≡ b .lists
+lists-word b = refl
+
 -- a book has 34 words, and the last is the free head
 module _ (b : Book) (h : length (b .entries) ≡ 8) where
   pub words-length : length (wordsOf b) ≡ 34

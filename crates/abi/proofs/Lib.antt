@@ -5,3 +5,4 @@ pub mod Kept
 pub mod Thin
 pub mod Exact
 pub mod OneResult
+pub mod Promised

@@ -1,11 +1,12 @@
 -- Document 01's numbers, computed: the constants, the sizes that it tries, and the all-zero book word by word.
 use mathlib.Core.Path.{_≡_, refl}
 use mathlib.Core.Bool.{true, false}
-use mathlib.Core.List.{List}
+use mathlib.Core.List.{List, [], _∷_}
 use Prim.Native.Nat.{ℕ}
 use lib.ListN.{replicate}
+use Rattle.books.specs.declared.Entry.{Entry}
 use Rattle.books.specs.declared.Book.{Book}
-use Rattle.books.specs.Book.{nullSlot, wipeWord, mostLists, zeroBook, wordsOf, AnyBook, eight, bookOf}
+use Rattle.books.specs.Book.{nullSlot, wipeWord, mostLists, zeroBook, entryWords, wordsOf, AnyBook, eight, bookOf}
 use Rattle.books.specs.Outcome.{outcome}
 use Rattle.books.specs.Test.{sizeFits}
 
@@ -24,6 +25,11 @@ sizes-tried = (refl, refl, refl, refl)
 
 pub zero-words : wordsOf zeroBook ≡ replicate 34 0
 zero-words = refl
+
+-- the words stand in the order of the records' fields
+pub words-order : (lists free : ℕ) (e : Entry) (es : List Entry)
+    → (wordsOf (record { lists = lists; entries = []; free = record { head = free } }) ≡ lists ∷ free ∷ []) × (entryWords (e ∷ es) ≡ e .head ∷ e .tail ∷ e .share ∷ e .limit ∷ entryWords es)
+words-order lists free e es = (refl, refl)
 
 -- an outcome is the answer and the two slices, and nothing is lost
 pub outcome-plain : {A : Type 0} (answer : A) (links values : List ℕ)

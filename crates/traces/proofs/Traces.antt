@@ -21,9 +21,10 @@ use Rattle.lists.specs.Meaning.{joined, contents}
 use Rattle.pools.specs.Sound.{Shape, chainAt, put, joinedUp, lacks, SoundBook}
 use Rattle.pools.proofs.Found.{listed, entry-is, within}
 use Rattle.pools.proofs.Steps.{length-joined}
-use Rattle.shares.specs.Setup.{slotsFrom}
+use Rattle.shares.specs.Setup.{setupOf, slotsFrom}
 use Rattle.shares.specs.Calls.{Called}
 use Rattle.shares.specs.Done.{OtherEntries, OtherLists}
+use Rattle.shares.specs.View.{left}
 use Rattle.shares.specs.Moves.{State, Move, check, askLength, pushBack, pushFront, popBack, popFront, readForward, readBackward, clear, numberOf, after}
 use Rattle.shares.proofs.Effects.{unique-book}
 use Rattle.shares.proofs.Fresh.{setup-sound, setup-keeps}
@@ -31,7 +32,7 @@ use Rattle.shares.proofs.When.{check-given, length-given, push-given, pop-given
 use Rattle.shares.proofs.Outcomes.{push-done, pop-done, clear-done}
 use Rattle.shares.proofs.After.{stateOf, left-sound, pushAt, popAt, clearAt, refused-state}
 use Rattle.shares.proofs.Exactly.{not-one-three, push-six, push-seven, push-zero}
-use Rattle.traces.specs.Trace.{Ledger, oneMore, noneAt, heldAt, butLast, butFirst, notedDone, noted, Trace, begins, goesOn, othersLack, Demand3}
+use Rattle.traces.specs.Trace.{Ledger, nothingNoted, oneMore, noneAt, heldAt, butLast, butFirst, notedDone, noted, Trace, begins, goesOn, othersLack, Demand3}
 
 -- ---- what the lists lack
 
@@ -270,3 +271,12 @@ module _ (lists : ℕ) (shares limits : List ℕ) where
 -- demand 3, at any point of any trace
 pub demand-3 : {lists : ℕ} {shares limits : List ℕ} {st : State} {d : Ledger} → Trace lists shares limits st d → (s : Shape) × Demand3 lists shares limits st d s
 demand-3 {lists} {shares} {limits} t = let (s, K) = trace-kept lists shares limits t in (s, demand lists shares limits K)
+
+-- ---- a trace may begin with any accepted setup, and go on with any call
+
+module _ {lists : ℕ} {shares limits : List ℕ} where
+  pub any-setup : (links values : List ℕ) → setupOf links values lists shares limits .answer .refusal .number ≡ 0 → Trace lists shares limits (left (setupOf links values lists shares limits)) nothingNoted
+  any-setup = begins
+
+  pub any-call : {st : State} {d : Ledger} → Trace lists shares limits st d → (m : Move) → Trace lists shares limits (after st m) (noted st m d)
+  any-call = goesOn
