@@ -9,8 +9,6 @@ use Rattle.books.specs.declared.Book.{Book}
 use Rattle.books.specs.Book.{wordsOf, AnyBook, eight, bookOf}
 use Rattle.books.specs.Outcome.{Outcome}
 use Rattle.lists.specs.declared.End.the-variants.{Front, Back}
-use Rattle.shares.specs.declared.Answer.{Answer}
-use Rattle.shares.specs.declared.Popped.{Popped}
 use Rattle.shares.specs.Setup.{setupOf}
 use Rattle.shares.specs.Calls.{Called, asAnswer, asPopped, pushCall, popCall, clearCall}
 use Rattle.shares.specs.Ten.{checkOf, lengthOf, pushBackOf, pushFrontOf, popBackOf, popFrontOf, readForwardOf, readBackwardOf, clearOf}

@@ -1,16 +1,14 @@
 -- A book is put into 34 words entry by entry: what holds before the loop, after each turn and at the end.
-use mathlib.Core.Path.{_≡_, refl, sym, ap, _∙_}
+use mathlib.Core.Path.{_≡_, refl, sym, _∙_}
 use mathlib.Core.List.{List}
-use Prim.Native.Nat.{ℕ, _+_, _*_, _≤_, _<_}
+use Prim.Native.Nat.{ℕ, _+_, _*_, _<_}
 use native.Mathlib.Omega.{arith}
 use lib.ListN.{length, getD, set, length-set}
-use lib.Seq.{ext-getD, getD-set-same}
 use Rattle.books.specs.declared.Free.{Free}
 use Rattle.books.specs.declared.Entry.{Entry}
 use Rattle.books.specs.declared.Book.{Book}
 use Rattle.books.specs.Book.{entryAt, wordsOf}
-use Rattle.books.specs.Tabulate.{tabulate}
-use Rattle.shares.proofs.Fill.{Filling, fill-none, fill-more, fill-all}
+use Rattle.shares.proofs.Fill.{Filling, fill-more, fill-all}
 use Rattle.abi.proofs.Flat.{head-word, tail-word, share-word, limit-word, words-length, free-word, each-word}
 
 -- the book that is being put: its first word stands in the words already

@@ -2,14 +2,13 @@
 use mathlib.Core.Path.{_≡_, refl, ap, _∙_}
 use mathlib.Core.List.{List}
 use Prim.Native.Nat.{ℕ}
-use Rattle.books.specs.declared.Book.{Book}
 use Rattle.books.specs.Outcome.{Outcome, outcome}
 use Rattle.shares.specs.declared.Answer.{Answer}
 use Rattle.shares.specs.declared.Popped.{Popped}
 use Rattle.shares.specs.declared.Read.{Read}
 use Rattle.shares.specs.Calls.{ReadLeft, readLeft}
 use Rattle.abi.specs.Words.{kept}
-use Rattle.abi.specs.Face.{Changed, changed, Handed, handed, Shown, shown, asChanged, asHanded, asShown}
+use Rattle.abi.specs.Face.{changed, handed, shown, asChanged, asHanded, asShown}
 
 module _ (words : List ℕ) {after links values : List ℕ} {number : ℕ} where
   pub changed-by : {r : Answer} {o : Outcome Answer} → number ≡ r .refusal .number → after ≡ kept (r .refusal .number) words (r .book) → outcome r links values ≡ o

@@ -14,3 +14,4 @@ pub mod Exactly
 pub mod After
 pub mod Tight
 pub mod Upstream
+pub mod Popping

@@ -1,4 +1,5 @@
 -- The nine calls on a pool that is set up, as moves: what a call is made on, the number that it gives, and what it leaves.
+use mathlib.Core.Path.{_≡_}
 use mathlib.Core.List.{List}
 use Prim.Native.Nat.{ℕ}
 use Rattle.books.specs.declared.Book.{Book}
@@ -45,3 +46,8 @@ after st (popFront l) = let r = popFrontOf (st .links) (st .values) (st .book) l
 after st (readForward l buffer at) = st
 after st (readBackward l buffer at) = st
 after st (clear l) = let r = clearOf (st .links) (st .values) (st .book) l in record { links = r .links; values = r .values; book = r .answer .book }
+
+-- 01: "popping the front until the list is empty": pops at the front of list l, each done, until one gives 5
+pub data PoppedOut (l : ℕ) : State → State → Type 0 where
+  ends : {st : State} → numberOf st (popFront l) ≡ 5 → PoppedOut l st st
+  goes : {st t : State} → numberOf st (popFront l) ≡ 0 → PoppedOut l (after st (popFront l)) t → PoppedOut l st t

@@ -1,8 +1,7 @@
 -- No promise is hollow: every number of the table is given by its call on some pool, and there are traces whose pushes are refused by 6 and by 7.
 use mathlib.Core.Path.{_≡_, refl}
 use mathlib.Core.Bool.{true}
-use mathlib.Core.List.{List, [], _∷_}
-use Prim.Native.Nat.{ℕ}
+use mathlib.Core.List.{_∷_}
 use lib.ListN.{replicate}
 use Rattle.books.specs.Tabulate.{tabulate}
 use Rattle.books.specs.Table.{mayGive}
