@@ -30,7 +30,7 @@ use Rattle.pools.specs.declared.check.Fault.{Fault}
 use Rattle.pools.specs.declared.check.Gathered.{Gathered}
 use Rattle.pools.specs.Sound.{Shape, chainAt, joinedUp, everySlot, lacks, Sound, SoundBook}
 use Rattle.pools.specs.Size.{SizesFit}
-use Rattle.pools.specs.Check.{nothingMet, gatheredNone, Round, gatherAll, idleFault, spareFault, nullSlotZero, poolFound, checkFound}
+use Rattle.pools.specs.Check.{noFault, nothingMet, gatheredNone, Round, gatherAll, idleFault, spareFault, nullSlotZero, poolFound, checkFound}
 use Rattle.pools.proofs.Shape.{at-most, no-null, part}
 use Rattle.pools.proofs.Gather.{Walked, Sums, gather-told, gather-tells}
 
@@ -47,9 +47,15 @@ record Idle (size lists : ℕ) (g : Gathered) (ended : Bool) (free unwiped : ℕ
   short : g .over ≡ lists
   spare : g .lacks ≤ free
 
+-- met, they leave no fault
+idle-fine : (met : List ℕ) (size lists : ℕ) (g : Gathered) (ended : Bool) (free unwiped : ℕ) → Idle size lists g ended free unwiped → idleFault met size lists g ended free unwiped ≡ noFault
+unfolding idleFault spareFault
+idle-fine met size lists g ended free unwiped i = rw (i .came, eq-eqb _ _ (i .all), eq-eqb _ _ (i .clean), eq-eqb _ _ (i .short), le-leb _ _ (i .spare))
+
+-- and no rule is broken exactly where they are
 idle-none : (met : List ℕ) (size lists : ℕ) (g : Gathered) (ended : Bool) (free unwiped : ℕ) → idleFault met size lists g ended free unwiped .rule ≡ 0 ↔ Idle size lists g ended free unwiped
 unfolding idleFault spareFault
-idle-none met size lists g ended free unwiped = (to, from)
+idle-none met size lists g ended free unwiped = (to, λ i. ap (λ f. f .rule) (idle-fine met size lists g ended free unwiped i))
   where
     no : (n : ℕ) → suc n ≢ 0
     no n e = omega arith
@@ -63,15 +69,15 @@ idle-none met size lists g ended free unwiped = (to, from)
         let (e, h₅) = past (leb (g .lacks) free) _ _ (no 14) h₄ in
         record { came = a; all = eqb-true _ _ b; clean = eqb-true _ _ c; short = eqb-true _ _ d; spare = leb-true _ _ e }
 
-    from : Idle size lists g ended free unwiped → idleFault met size lists g ended free unwiped .rule ≡ 0
-    from i = rw (i .came, eq-eqb _ _ (i .all), eq-eqb _ _ (i .clean), eq-eqb _ _ (i .short), le-leb _ _ (i .spare))
-
 module _ (wanted : ℕ) (links values : List ℕ) (es : List Entry) (free : Free) (same : length values ≡ length links) (size : Size (length links)) where
   abbrev lists : ℕ
   lists = length es
 
+  abbrev none : List ℕ
+  none = nothingMet (length links)
+
   abbrev r : Round
-  r = gatherAll wanted lists links 0 es nothingMet (gatheredNone lists)
+  r = gatherAll wanted lists links 0 es none (gatheredNone lists)
 
   abbrev path : Path
   path = idlePath links (r .met) free
@@ -81,13 +87,13 @@ module _ (wanted : ℕ) (links values : List ℕ) (es : List Entry) (free : Free
   Asked = Idle (length links) lists (r .gathered) (path .ok) (length (path .slots)) (unwipedFrom values (path .slots) nullSlot)
 
   -- a slot of the pool was not met before the first walk
-  unseen : (y : ℕ) → y < length links → seen nothingMet y ≡ 0
+  unseen : (y : ℕ) → y < length links → seen none y ≡ 0
   unfolding nothingMet
-  unseen y h = seen-none largestPool y (omega (arith, size .most))
+  unseen y h = seen-none (length links) y h
 
   -- ---- no fault: the pool is sound
 
-  shape-sound : (cs : List (List ℕ)) → nullSlotZero links values ≡ true → Walked links nothingMet es cs → Sums wanted lists 0 nothingMet es cs (gatheredNone lists) r → Asked
+  shape-sound : (cs : List (List ℕ)) → nullSlotZero links values ≡ true → Walked links none es cs → Sums wanted lists 0 none es cs (gatheredNone lists) r → Asked
       → Sound links values es free (record { chains = cs; idle = path .slots })
   unfolding nullSlotZero
   shape-sound cs z W S I =
@@ -115,7 +121,7 @@ module _ (wanted : ℕ) (links values : List ℕ) (es : List Entry) (free : Free
       slots : List ℕ
       slots = joinedUp cs ++ path .slots
 
-      counted : (y : ℕ) → seen nothingMet y + count y slots ≤ 1
+      counted : (y : ℕ) → seen none y + count y slots ≤ 1
       counted y = omega (arith, idle-fresh links (r .met) free .once y, S .marks y, count-append y (joinedUp cs) (path .slots))
 
       inside : (y : ℕ) → 0 < count y slots → (0 < y) × (y ≤ length links - 1)
@@ -135,7 +141,7 @@ module _ (wanted : ℕ) (links values : List ℕ) (es : List Entry) (free : Free
   -- ---- a sound pool: no fault
 
   module _ (s : Shape) (S : Sound links values es free s) where
-    sound-walked : Walked links nothingMet es (s .chains)
+    sound-walked : Walked links none es (s .chains)
     sound-walked =
         record {
           lists = S .lists;
@@ -146,12 +152,12 @@ module _ (wanted : ℕ) (links values : List ℕ) (es : List Entry) (free : Free
           once = λ y. go y (decLt 0 (count y (joinedUp (s .chains)))) (count-append y (joinedUp (s .chains)) (s .idle));
         }
       where
-        go : (y : ℕ) → Dec (0 < count y (joinedUp (s .chains))) → count y (everySlot s) ≡ count y (joinedUp (s .chains)) + count y (s .idle) → seen nothingMet y + count y (joinedUp (s .chains)) ≤ 1
+        go : (y : ℕ) → Dec (0 < count y (joinedUp (s .chains))) → count y (everySlot s) ≡ count y (joinedUp (s .chains)) + count y (s .idle) → seen none y + count y (joinedUp (s .chains)) ≤ 1
         go y (yes h) e = let o = S .only y (omega arith) in omega (arith, unseen y (o .1), at-most S y)
-        go y (no h) e = omega (arith, seen-le nothingMet y)
+        go y (no h) e = omega (arith, seen-le none y)
 
-    sound-sums : Sums wanted lists 0 nothingMet es (s .chains) (gatheredNone lists) r
-    sound-sums = gather-tells wanted lists links 0 es (s .chains) nothingMet (gatheredNone lists) (omega arith) sound-walked
+    sound-sums : Sums wanted lists 0 none es (s .chains) (gatheredNone lists) r
+    sound-sums = gather-tells wanted lists links 0 es (s .chains) none (gatheredNone lists) (omega arith) sound-walked
 
     sound-path : path ≡ record { ok = true; slots = s .idle }
     sound-path =
@@ -159,7 +165,7 @@ module _ (wanted : ℕ) (links values : List ℕ) (es : List Entry) (free : Free
         (λ y p. S .only y (omega (arith, count-append y (joinedUp (s .chains)) (s .idle))))
         (λ y. go y (decLt 0 (count y (s .idle))) (count-append y (joinedUp (s .chains)) (s .idle)) (sound-sums .marks y))
       where
-        go : (y : ℕ) → Dec (0 < count y (s .idle)) → count y (everySlot s) ≡ count y (joinedUp (s .chains)) + count y (s .idle) → seen (r .met) y ≡ seen nothingMet y + count y (joinedUp (s .chains)) → seen (r .met) y + count y (s .idle) ≤ 1
+        go : (y : ℕ) → Dec (0 < count y (s .idle)) → count y (everySlot s) ≡ count y (joinedUp (s .chains)) + count y (s .idle) → seen (r .met) y ≡ seen none y + count y (joinedUp (s .chains)) → seen (r .met) y + count y (s .idle) ≤ 1
         go y (yes h) e m = let o = S .only y (omega arith) in omega (arith, unseen y (o .1), at-most S y)
         go y (no h) e m = omega (arith, seen-le (r .met) y)
 
@@ -188,9 +194,9 @@ module _ (wanted : ℕ) (links values : List ℕ) (es : List Entry) (free : Free
     sound-null = both-and _ _ (eq-eqb _ _ (S .nullLink)) (eq-eqb _ _ (S .nullValue))
 
     -- what the check finds on a sound pool
-    pub sound-found : poolFound wanted links values es free .fault .rule ≡ 0
+    pub sound-found : poolFound wanted links values es free .fault ≡ noFault
     unfolding poolFound
-    sound-found = rw (sound-null, ap (λ f. f .rule) (sound-sums .fault)) (idle-none (markAll (r .met) (path .slots)) (length links) lists (r .gathered) (path .ok) (length (path .slots)) (unwipedFrom values (path .slots) nullSlot) .1 sound-idle)
+    sound-found = rw (sound-null, ap (λ f. f .rule) (sound-sums .fault)) (idle-fine (markAll (r .met) (path .slots)) (length links) lists (r .gathered) (path .ok) (length (path .slots)) (unwipedFrom values (path .slots) nullSlot) sound-idle)
 
     pub sound-length : wanted < length es → poolFound wanted links values es free .length ≡ length (chainAt s wanted)
     unfolding poolFound
@@ -212,13 +218,13 @@ module _ (wanted : ℕ) (links values : List ℕ) (es : List Entry) (free : Free
   -- the pool has no fault exactly where there is a sound shape
   pub pool-exactly : poolFound wanted links values es free .fault .rule ≡ 0 ↔ ((s : Shape) × Sound links values es free s)
   unfolding poolFound
-  pool-exactly = (to, λ (s, S). sound-found s S)
+  pool-exactly = (to, λ (s, S). ap (λ f. f .rule) (sound-found s S))
     where
       go : (a b : Bool) → nullSlotZero links values ≡ a → eqb (r .gathered .fault .rule) 0 ≡ b → poolFound wanted links values es free .fault .rule ≡ 0 → (s : Shape) × Sound links values es free s
       go true true ea eb h =
-          finish ea (gather-told wanted lists links 0 es nothingMet (gatheredNone lists) (omega arith) (seen-le nothingMet) (eqb-true _ _ eb)) (idle-none (markAll (r .met) (path .slots)) (length links) lists (r .gathered) (path .ok) (length (path .slots)) (unwipedFrom values (path .slots) nullSlot) .0 (rw (ea, eb) at h))
+          finish ea (gather-told wanted lists links 0 es none (gatheredNone lists) (omega arith) (seen-le none) (eqb-true _ _ eb)) (idle-none (markAll (r .met) (path .slots)) (length links) lists (r .gathered) (path .ok) (length (path .slots)) (unwipedFrom values (path .slots) nullSlot) .0 (rw (ea, eb) at h))
         where
-          finish : nullSlotZero links values ≡ true → (cs : List (List ℕ)) × Walked links nothingMet es cs × Sums wanted lists 0 nothingMet es cs (gatheredNone lists) r
+          finish : nullSlotZero links values ≡ true → (cs : List (List ℕ)) × Walked links none es cs × Sums wanted lists 0 none es cs (gatheredNone lists) r
               → Asked → (s : Shape) × Sound links values es free s
           finish z (cs, W, S) I = (record { chains = cs; idle = path .slots }, shape-sound cs z W S I)
       go true false ea eb h = absurd (eqb-false _ _ eb (rw (ea, eb) at h))

@@ -15,10 +15,10 @@ use Rattle.books.proofs.Tests.{not-both}
 use Rattle.books.proofs.Rules.{keeps-rules}
 use Rattle.pools.specs.Sound.{Shape, chainAt, lacks, SoundBook}
 use Rattle.pools.specs.Size.{SizesFit, sizesFit}
-use Rattle.pools.specs.Check.{poolFound, checkFound, lookOf}
+use Rattle.pools.specs.Check.{noFault, poolFound, checkFound, lookOf}
 use Rattle.pools.specs.Look.{Tells}
 use Rattle.pools.proofs.Size.{sizes-fit}
-use Rattle.pools.proofs.Checked.{sound-length, sound-beyond, sound-lacks, sound-free, check-exactly}
+use Rattle.pools.proofs.Checked.{sound-found, sound-length, sound-beyond, sound-lacks, sound-free, check-exactly}
 
 -- ---- on a sound pool
 
@@ -29,6 +29,9 @@ module _ {links values : List ℕ} {b : AnyBook} {s : Shape} (S : SoundBook link
   kept : (wanted : ℕ) → checkFound wanted links values b ≡ poolFound wanted links values (take (b .lists) (b .entries)) (b .free)
   unfolding checkFound
   kept wanted = rw (keeps-rules (length links) b .1 (S .rules))
+
+  pub found-fine : (wanted : ℕ) → checkFound wanted links values b .fault ≡ noFault
+  found-fine wanted = rw (kept wanted) (sound-found wanted links values _ (b .free) (S .pool .sameSize) (S .pool .size) s (S .pool))
 
   pub found-lacks : (wanted : ℕ) → checkFound wanted links values b .lacks ≡ lacks (take (b .lists) (b .entries)) (s .chains)
   found-lacks wanted = rw (kept wanted) (sound-lacks wanted links values _ (b .free) (S .pool .sameSize) (S .pool .size) s (S .pool))
@@ -80,6 +83,7 @@ module _ (wanted : ℕ) (links values : List ℕ) (b : AnyBook) where
             three = (λ e. no e (λ k. omega arith), λ (g, n). absurd (n sound));
             fine = (λ e. sound, λ S. refl);
             nothing = λ d. absurd (d refl);
+            clean = λ e. let (s, S) = sound in found-fine S wanted;
             many = λ e s S below. found-length S wanted below;
             none = λ e h. let (s, S) = sound in found-beyond S wanted h;
             lacking = λ e s S. found-lacks S wanted;
@@ -94,6 +98,7 @@ module _ (wanted : ℕ) (links values : List ℕ) (b : AnyBook) where
             three = (λ e. (f, unsound), λ g. refl);
             fine = (λ e. no e (λ k. omega arith), λ S. absurd (unsound S));
             nothing = λ d. refl;
+            clean = λ e. no e (λ k. omega arith);
             many = λ e. no e (λ k. omega arith);
             none = λ e. no e (λ k. omega arith);
             lacking = λ e. no e (λ k. omega arith);
@@ -107,6 +112,7 @@ module _ (wanted : ℕ) (links values : List ℕ) (b : AnyBook) where
             three = (λ e. no e (λ k. omega arith), λ (f, n). absurd (unfit f));
             fine = (λ e. no e (λ k. omega arith), λ (s, S). absurd (unfit (sound-sizes S)));
             nothing = λ d. refl;
+            clean = λ e. no e (λ k. omega arith);
             many = λ e. no e (λ k. omega arith);
             none = λ e. no e (λ k. omega arith);
             lacking = λ e. no e (λ k. omega arith);

@@ -23,11 +23,11 @@ use Rattle.slots.specs.Walk.{Path}
 use Rattle.slots.proofs.Seen.{seen}
 use Rattle.slots.proofs.Walks.{pass-unmet}
 use Rattle.walks.specs.declared.walk.LiveWalk.{LiveWalk}
-use Rattle.walks.specs.Walk.{livePath, LiveWalked}
+use Rattle.walks.specs.Walk.{endsWell, livePath, LiveWalked}
 use Rattle.walks.proofs.Walks.{live-fresh, live-only, live-finds}
 use Rattle.pools.specs.declared.check.Gathered.{Gathered}
 use Rattle.pools.specs.Sound.{joinedUp, lacks}
-use Rattle.pools.specs.Check.{endsWell, gatherOne, gatherFault, Round, round, gatherAll}
+use Rattle.pools.specs.Check.{gatherOne, gatherFault, Round, round, gatherAll}
 
 -- the chains `cs` of the lists `es`, with no slot twice and none that was met
 pub record Walked (links met : List ℕ) (es : List Entry) (cs : List (List ℕ)) : Type 0 where

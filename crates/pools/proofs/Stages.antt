@@ -1,12 +1,13 @@
 -- The stages of the check one by one, as the code takes them: the lowest slot not met, how many slots are live, and what the whole pool gives.
-use mathlib.Core.Path.{_≡_, sym, subst}
+use mathlib.Core.Path.{_≡_, refl, sym, subst, ap}
 use mathlib.Core.Logic.{_≢_}
 use mathlib.Core.Bool.{true, false}
 use mathlib.Core.List.{List, [], _∷_}
 use Prim.Native.Nat.{ℕ, zero, suc, _+_, _-_, _≤_, _<_}
 use native.Mathlib.Numerals.{add-one}
+use native.Mathlib.Nat.{not-suc-le-zero}
 use native.Mathlib.Omega.{arith}
-use lib.ListN.{length, length-replicate}
+use lib.ListN.{length, take, length-replicate}
 use borrow.Author.Tests.{eq-eqb, ne-eqb}
 use Rattle.books.specs.declared.Entry.{Entry}
 use Rattle.books.specs.declared.Free.{Free}
@@ -16,11 +17,11 @@ use Rattle.slots.specs.Met.{isMetOf, markAll, unmet}
 use Rattle.slots.specs.Walk.{idlePath}
 use Rattle.slots.proofs.Seen.{unmet-le}
 use Rattle.slots.proofs.Walks.{pass-unmet, idle-fresh}
-use Rattle.walks.specs.Walk.{livePath}
+use Rattle.walks.specs.Walk.{livePath, endsWell}
 use Rattle.walks.proofs.Walks.{live-fresh}
 use Rattle.pools.specs.declared.check.Gathered.{Gathered}
 use Rattle.pools.specs.declared.check.Found.{Found}
-use Rattle.pools.specs.Check.{fault, nothingMet, gatheredNone, endsWell, gatherOne, Round, round, gatherAll, lowestUnmet, faulty, nullSlotZero, idleFound, poolFound}
+use Rattle.pools.specs.Check.{fault, nothingMet, gatheredNone, gatherOne, Round, round, gatherAll, lowestUnmet, faulty, nullSlotZero, idleFound, poolFound}
 
 -- ---- the lowest slot that was not met, one slot at a time
 
@@ -35,11 +36,19 @@ module _ (met : List ℕ) (slot size : ℕ) where
     pub lowest-next : isMetOf met slot ≡ true → lowestUnmet met (slot + 1) (size - (slot + 1)) ≡ lowestUnmet met slot (size - slot)
     lowest-next h = let e : size - slot ≡ suc (size - (slot + 1)) = omega arith in rw (e, h, add-one)
 
+-- ---- a part of a record in which nothing is met
+
+pub met-none : (size room : ℕ) → size ≤ room → take size (nothingMet room) ≡ nothingMet size
+unfolding nothingMet
+met-none zero room h = refl
+met-none (suc size) zero h = absurd (not-suc-le-zero h)
+met-none (suc size) (suc room) h = ap (zero ∷_) (met-none size room (omega arith))
+
 -- ---- how many slots are live, and how many are left to meet
 
-nothing-unmet : unmet nothingMet ≤ largestPool
+nothing-unmet : (size : ℕ) → unmet (nothingMet size) ≤ size
 unfolding nothingMet
-nothing-unmet = omega (arith, unmet-le nothingMet, length-replicate largestPool zero)
+nothing-unmet size = omega (arith, unmet-le (nothingMet size), length-replicate size zero)
 
 module _ (wanted lists : ℕ) (links : List ℕ) where
   gather-live : (list : ℕ) (es : List Entry) (met : List ℕ) (g : Gathered)
@@ -63,13 +72,13 @@ pub pool-null : (wanted : ℕ) (links values : List ℕ) (es : List Entry) (free
 unfolding poolFound
 pool-null wanted links values es free z = rw z
 
-module _ (wanted : ℕ) (links : List ℕ) (es : List Entry) {lists : ℕ} {met met′ : List ℕ} {g : Gathered} (many : length es ≡ lists) (none : met ≡ nothingMet) (got : round g met′ ≡ gatherAll wanted lists links 0 es met (gatheredNone lists)) where
-  all-got : round g met′ ≡ gatherAll wanted (length es) links 0 es nothingMet (gatheredNone (length es))
+module _ (wanted : ℕ) (links : List ℕ) (es : List Entry) {lists : ℕ} {met met′ : List ℕ} {g : Gathered} (many : length es ≡ lists) (none : met ≡ nothingMet (length links)) (got : round g met′ ≡ gatherAll wanted lists links 0 es met (gatheredNone lists)) where
+  all-got : round g met′ ≡ gatherAll wanted (length es) links 0 es (nothingMet (length links)) (gatheredNone (length es))
   all-got = rw (many, ← none) got
 
-  pub pool-live : g .live + unmet met′ ≤ largestPool
+  pub pool-live : g .live + unmet met′ ≤ length links
   pool-live =
-      subst (λ (r : Round). r .gathered .live + unmet (r .met) ≤ largestPool) (sym all-got) (omega (arith, gather-live wanted (length es) links 0 es nothingMet (gatheredNone (length es)), nothing-unmet))
+      subst (λ (r : Round). r .gathered .live + unmet (r .met) ≤ length links) (sym all-got) (omega (arith, gather-live wanted (length es) links 0 es (nothingMet (length links)) (gatheredNone (length es)), nothing-unmet (length links)))
 
   module _ (values : List ℕ) (free : Free) (zero-slot : nullSlotZero links values ≡ true) where
     pub pool-fault : g .fault .rule ≢ 0 → faulty (g .fault) ≡ poolFound wanted links values es free

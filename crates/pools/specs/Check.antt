@@ -6,12 +6,12 @@ use lib.Dec.{ltb, leb, eqb}
 use lib.ListN.{length, take, replicate}
 use Rattle.books.specs.declared.Free.{Free}
 use Rattle.books.specs.declared.Entry.{Entry}
-use Rattle.books.specs.Book.{nullSlot, largestPool, AnyBook}
+use Rattle.books.specs.Book.{nullSlot, AnyBook}
 use Rattle.books.specs.Test.{keepsRules}
-use Rattle.chains.specs.Chain.{cell, lastOr}
+use Rattle.chains.specs.Chain.{cell}
 use Rattle.slots.specs.Met.{isMetOf, markAll}
 use Rattle.slots.specs.Walk.{Path, unwipedFrom, idlePath}
-use Rattle.walks.specs.Walk.{livePath}
+use Rattle.walks.specs.Walk.{livePath, endsWell}
 use Rattle.pools.specs.Size.{sizesFit}
 use Rattle.pools.specs.declared.check.Fault.{Fault}
 use Rattle.pools.specs.declared.check.Gathered.{Gathered}
@@ -24,17 +24,13 @@ fault rule list place = record { rule = rule; list = list; place = place }
 abbrev pub noFault : Fault
 noFault = fault 0 0 0
 
--- before the first list nothing was met
-unfoldable pub nothingMet : List ℕ
-nothingMet = replicate largestPool 0
+-- before the first list none of the N slots was met
+unfoldable pub nothingMet : ℕ → List ℕ
+nothingMet size = replicate size 0
 
 -- and no list is over its limit
 abbrev pub gatheredNone : ℕ → Gathered
 gatheredNone lists = record { fault = noFault; live = 0; lacks = 0; over = lists; length = 0 }
-
--- the walk along a list came to its end, at the list's tail
-abbrev pub endsWell : Path → Entry → Bool
-endsWell path e = path .ok && eqb (lastOr nullSlot (path .slots)) (e .tail)
 
 module _ (wanted lists : ℕ) where
   -- one list, number `list`, whose walk passed `many` slots
@@ -79,7 +75,7 @@ unfoldable pub spareFault : ℕ → ℕ → ℕ → ℕ → Fault
 spareFault lists over lacks free = cond (eqb over lists) (cond (leb lacks free) noFault (fault 15 lists 0)) (fault 15 over 0)
 
 -- rules 12 to 15, once the idle chain was walked too: `met` are the slots met on all walks, `ended` whether the idle walk came to its end,
--- `free` how many slots it passed, and `unwiped` the lowest of them with a value
+-- `free` how many slots it passed, and `unwiped` the lowest of them that is not wiped, or 0
 unfoldable pub idleFault : List ℕ → ℕ → ℕ → Gathered → Bool → ℕ → ℕ → Fault
 idleFault met size lists g ended free unwiped =
     cond ended
@@ -113,7 +109,7 @@ idleFound links values lists r path =
 unfoldable pub poolFound : ℕ → List ℕ → List ℕ → List Entry → Free → Found
 poolFound wanted links values es free =
     let lists = length es in
-    let r = gatherAll wanted lists links 0 es nothingMet (gatheredNone lists) in
+    let r = gatherAll wanted lists links 0 es (nothingMet (length links)) (gatheredNone lists) in
     cond (nullSlotZero links values)
     (cond (eqb (r .gathered .fault .rule) 0)
     (idleFound links values lists r (idlePath links (r .met) free))

@@ -18,6 +18,7 @@ pub record Tells (wanted : ℕ) (links values : List ℕ) (b : AnyBook) (r : Loo
   -- "0 when sound"
   pub fine : r .refusal .number ≡ 0 ↔ ((s : Shape) × SoundBook links values b s)
   pub nothing : r .refusal .number ≢ 0 → r .found ≡ faulty noFault
+  pub clean : r .refusal .number ≡ 0 → r .found .fault ≡ noFault
   pub many : r .refusal .number ≡ 0 → (s : Shape) → SoundBook links values b s → wanted < b .lists → r .found .length ≡ length (chainAt s wanted)
   pub none : r .refusal .number ≡ 0 → b .lists ≤ wanted → r .found .length ≡ 0
   pub lacking : r .refusal .number ≡ 0 → (s : Shape) → SoundBook links values b s → r .found .lacks ≡ lacks (take (b .lists) (b .entries)) (s .chains)

@@ -73,7 +73,7 @@ fn over_of(count: u16, list: u16, limit: u16, many: usize, over: u16) -> u16
     over
 }
 
-// One list more, number `list` of `count`, whose walk passed `many` slots.
+// One list more, number `list` of `count`, whose walk passed `many` slots. Neither sum wraps.
 fn gather_one(
     wanted: u16,
     count: u16,
@@ -268,7 +268,7 @@ fn find_idle(
     free: Free,
     g: Gathered,
 ) -> Found
-    requires { ⌜ Size (length (now links)) × (g .live + unmet (now met) ≤ 4096) ⌝ }
+    requires { ⌜ Size (length (now links)) × (g .live + unmet (now met) ≤ length (now links)) ⌝ }
     ensures { λ r. ⌜ r ≡ idleFound (now (links .entry)) (now (values .entry)) count (round g (now (met .entry))) (idlePath (now (links .entry)) (now (met .entry)) free) ⌝ }
 {
     let idle = walks::walk::walk_idle(links, values, met, free);
@@ -284,7 +284,7 @@ fn find_idle(
 
 // Rules 10 to 15, with the record of slots met.
 fn find_over(links: &[u16], values: &[u64], met: &mut [u8], book: Book, wanted: u16) -> Found
-    requires { ⌜ SizesFit (length (now links)) (length (now values)) × (now met ≡ nothingMet) × (book .lists ≤ 8) ⌝ }
+    requires { ⌜ SizesFit (length (now links)) (length (now values)) × (now met ≡ nothingMet (length (now links))) × (book .lists ≤ 8) ⌝ }
     ensures { λ r. ⌜ r ≡ poolFound wanted (now (links .entry)) (now (values .entry)) (take (book .lists) (book .entries)) (book .free) ⌝ }
 {
     if !null_slot_zero(links, values) {
@@ -300,16 +300,16 @@ fn find_over(links: &[u16], values: &[u64], met: &mut [u8], book: Book, wanted: 
     find_idle(links, values, met, book.lists, free, g)
 }
 
-// The whole check, rule 9 first. The record is made here and lent on, one byte for each slot of the largest pool.
-fn find(links: &[u16], values: &[u64], book: Book, wanted: u16) -> Found
-    requires { ⌜ SizesFit (length (now links)) (length (now values)) ⌝ }
+// The whole check, rule 9 first. The record may be longer than the pool. It is cut to the pool's size, so that the compiler sees
+// slices of one length and tests a slot once.
+fn find(links: &[u16], values: &[u64], met: &mut [u8], book: Book, wanted: u16) -> Found
+    requires { ⌜ SizesFit (length (now links)) (length (now values)) × (length (now links) ≤ length (now met)) × (now met ≡ nothingMet (length (now met))) ⌝ }
     ensures { λ r. ⌜ r ≡ checkFound wanted (now (links .entry)) (now (values .entry)) (eight book) ⌝ }
 {
     if !book.keeps_rules(links.len()) {
         return faulty(9, 0, 0);
     }
-    let mut met = [0u8; 4096];
-    find_over(links, values, &mut met, book, wanted)
+    find_over(links, values, &mut met[..links.len()], book, wanted)
 }
 
 // A refusal, with nothing found.
@@ -322,14 +322,15 @@ pub fn refused(number: u16) -> Looked
     }
 }
 
-// 1 where the sizes do not fit, 3 where the pool is not sound; else 0, and what the check found.
-pub fn look(links: &[u16], values: &[u64], book: Book, wanted: u16) -> Looked
+// `look`, with a record that has a place for each slot, and nothing met.
+fn look_over(links: &[u16], values: &[u64], met: &mut [u8], book: Book, wanted: u16) -> Looked
+    requires { ⌜ (Size (length (now links)) → length (now links) ≤ length (now met)) × (now met ≡ nothingMet (length (now met))) ⌝ }
     ensures { λ r. ⌜ r ≡ lookOf wanted (now (links .entry)) (now (values .entry)) (eight book) ⌝ }
 {
     if !crate::sizes_fit(links.len(), values.len()) {
         return refused(1);
     }
-    let found = find(links, values, book, wanted);
+    let found = find(links, values, met, book, wanted);
     let fault = found.fault;
     if fault.rule != 0 {
         return refused(3);
@@ -338,4 +339,32 @@ pub fn look(links: &[u16], values: &[u64], book: Book, wanted: u16) -> Looked
         refusal: Refusal { number: 0 },
         found,
     }
+}
+
+// Up to 256 slots: the record is made here, one byte for each slot, and lent on.
+fn look_small(links: &[u16], values: &[u64], book: Book, wanted: u16) -> Looked
+    requires { ⌜ length (now links) ≤ 256 ⌝ }
+    ensures { λ r. ⌜ r ≡ lookOf wanted (now (links .entry)) (now (values .entry)) (eight book) ⌝ }
+{
+    let mut met = [0u8; 256];
+    look_over(links, values, &mut met, book, wanted)
+}
+
+// The same for any pool. To clear this record costs some 400 instructions, as much as to walk along 33 slots, so small pools have a
+// smaller one. The two are never there at the same time.
+fn look_large(links: &[u16], values: &[u64], book: Book, wanted: u16) -> Looked
+    ensures { λ r. ⌜ r ≡ lookOf wanted (now (links .entry)) (now (values .entry)) (eight book) ⌝ }
+{
+    let mut met = [0u8; 4096];
+    look_over(links, values, &mut met, book, wanted)
+}
+
+// 1 where the sizes do not fit, 3 where the pool is not sound; else 0, and what the check found.
+pub fn look(links: &[u16], values: &[u64], book: Book, wanted: u16) -> Looked
+    ensures { λ r. ⌜ r ≡ lookOf wanted (now (links .entry)) (now (values .entry)) (eight book) ⌝ }
+{
+    if links.len() <= 256 {
+        return look_small(links, values, book, wanted);
+    }
+    look_large(links, values, book, wanted)
 }

@@ -1,6 +1,6 @@
 -- The walk along a list's chain: the slot after one is its link XORed with the slot before it. The last one is held against the list's tail.
 use mathlib.Core.Path.{_≡_}
-use mathlib.Core.Bool.{_&&_}
+use mathlib.Core.Bool.{Bool, _&&_}
 use mathlib.Core.List.{List}
 use Prim.Native.Nat.{ℕ}
 use lib.Bits.{bitXor}
@@ -21,8 +21,12 @@ liveOnward before link = bitXor link before
 abbrev pub livePath : List ℕ → List ℕ → Entry → Path
 livePath links met list = walkFrom liveOnward links met (list .head)
 
+-- the walk came to its end, at the list's tail
+abbrev pub endsWell : Path → Entry → Bool
+endsWell path list = path .ok && eqb (lastOr nullSlot (path .slots)) (list .tail)
+
 -- what the walk along a list's chain answers, and which slots are marked then
 pub record LiveWalked (links met : List ℕ) (list : Entry) (r : LiveWalk) (met′ : List ℕ) : Type 0 where
-  pub ok : r .ok ≡ livePath links met list .ok && eqb (lastOr nullSlot (livePath links met list .slots)) (list .tail)
+  pub ok : r .ok ≡ endsWell (livePath links met list) list
   pub counted : r .length ≡ length (livePath links met list .slots)
   pub marked : met′ ≡ markAll met (livePath links met list .slots)

@@ -1,0 +1,13 @@
+-- `pools::check::look_small`: the record has a place for each slot, and nothing is met in it.
+use mathlib.Core.Path.{refl}
+use borrow.Author.Needs.{needs}
+use Rattle.pools.specs.Check.{nothingMet}
+use Rattle.pools.proofs.check.look_small.Statement.{statement}
+use Rattle.pools.proofs.check.look_small.Tie as tie
+
+look-over-requires : tie.Need-look-over-requires
+unfolding nothingMet
+look-over-requires c κs = (λ f. c .before .before .before .pre, refl)
+
+pub look-small-spec : {M : Type 1} → statement M
+look-small-spec = tie.close (tie.spec (λ c. search needs) look-over-requires (λ c. search needs))
