@@ -6,7 +6,7 @@
  *
  * THE POOL is two buffers of equal length N: a 16-bit link and a 64-bit value for each slot. N runs from 2 to 4,096. Slot 0
  * is the null and never holds an element; slots 1 to N-1 do. A slot that no list holds is free, and a free slot's value
- * is 0: a value that is popped or cleared is gone from the pool when the call returns.
+ * is 0: when a pop or a clear returns, each slot that it freed holds 0.
  *
  * THE BOOK is 34 words that say where the lists begin and end, and how much each list is owed and may have. A list that
  * holds less than its share is never refused a push for want of room; no list holds more than its limit. The firmware may
@@ -22,10 +22,16 @@
  * - Lengths are true. They count cells, not bytes, and that many cells can be read, and written where the pointer is not to
  *   const memory.
  * - No two buffers of one call overlap; `length`, `value`, `count` and the book are buffers too.
- * - No other thread and no interrupt handler touches these buffers while the call runs.
+ * - No other thread and no interrupt handler touches these buffers while the call runs. Calls on different pools may run
+ *   at the same time: nothing is shared.
+ * - There is stack enough: a call uses up to about 5 KiB (docs/SPEED.md has the bytes of each).
  * WHAT THE CALLER DOES NOT OWE. What the cells and the book hold may be anything: every call but setup checks the whole pool
- * before it acts, and refuses a damaged one by 3. So a call takes time in proportion to N. List numbers, places and
- * values may be anything too. Every call ends. */
+ * before it acts, and refuses by 3 one that is not sound. Damage that leaves it sound, as another value in a list's slot, is
+ * not seen. So a call takes time in proportion to N. List numbers, places and values may be anything too. Every call ends.
+ *
+ * WHAT IS LEFT TO THE FIRMWARE TO WIPE. A value that a pop hands out; the copies that a read writes; and the dead stack below
+ * the caller, where a push or a pop may leave a copy of the value (docs/SPEED.md has the count). Setup, check, length, the
+ * reads and clear leave none there, but one that an earlier push or pop left may stay. This is measured, not proved. */
 #ifndef FLAILREEVE_H
 #define FLAILREEVE_H
 
@@ -155,8 +161,7 @@ FLAILREEVE_CALL uint16_t flailreeve_push_front(uint16_t *links, size_t links_len
 /* Pop back: takes the last element out of a list. Its slot is wiped to 0 and becomes the free head. Only that slot, its
  * neighbour and, in the book, the list's ends and the free head change.
  *
- * Gives 0, and the element in `*value`. No slot holds it any more. `*value` is the firmware's to wipe, and so is the dead
- * stack below the caller, where a pop may leave a copy (docs/SPEED.md has the count).
+ * Gives 0, and the element in `*value`. The slot that held it holds 0.
  * Gives 1, 3: as check.
  * Gives 4: there is no list of that number.
  * Gives 5: the list is empty.
@@ -190,10 +195,10 @@ FLAILREEVE_CALL uint16_t flailreeve_read_backward(const uint16_t *links, size_t 
 /* Clear: empties a list, as popping its front until it is empty would. Every slot that it had is wiped to 0 and free. An
  * empty list is cleared too.
  *
- * Gives 0: the list is empty, and no slot holds what it held; nor does the dead stack below the caller (docs/SPEED.md).
+ * Gives 0: the list is empty, and every slot that it had holds 0.
  * Gives 1, 3: as check.
  * Gives 4: there is no list of that number.
- * Refused, it changes nothing: what the list held is still there. */
+ * Refused, it changes nothing: what the list held is still there. In a pool that is not sound, setup wipes every slot. */
 FLAILREEVE_CALL uint16_t flailreeve_clear(uint16_t *links, size_t links_len, uint64_t *values, size_t values_len,
                                           struct flailreeve_book *book, uint16_t list);
 
