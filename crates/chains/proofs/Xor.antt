@@ -1,4 +1,4 @@
--- The laws of XOR: commutative, associative, cancelling.
+-- The laws of XOR: associative, cancelling.
 use mathlib.Core.Path.{_≡_, refl, sym, ap, _∙_}
 use Prim.Native.Nat.{ℕ, zero, suc, _/_, _%_, _<_}
 use native.Mathlib.Nat.{le-of-suc-le-suc, not-suc-le-zero, mod-lt, zero-lt-suc}
@@ -28,9 +28,6 @@ xor-half a b = ap (λ x. x / 2) (xor-step a b) ∙ digits-div (bitXor (a / 2) (b
 
 xor-bit : (a b : ℕ) → bitXor a b % 2 ≡ differ (a % 2) (b % 2)
 xor-bit a b = ap (λ x. x % 2) (xor-step a b) ∙ digits-mod (bitXor (a / 2) (b / 2)) (bit-lt a b)
-
-pub xor-commutes : (a b : ℕ) → bitXor a b ≡ bitXor b a
-xor-commutes a b = xor-comm a b
 
 pub xor-assoc : (a b c : ℕ) → bitXor (bitXor a b) c ≡ bitXor a (bitXor b c)
 xor-assoc =
