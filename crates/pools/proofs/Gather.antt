@@ -18,9 +18,8 @@ use Rattle.books.proofs.Tests.{and-both}
 use Rattle.chains.specs.Count.{count}
 use Rattle.chains.specs.Chain.{firstOr, lastOr, LiveChain}
 use Rattle.chains.proofs.Count.{count-append}
-use Rattle.slots.specs.Met.{markAll, unmet}
+use Rattle.slots.specs.Met.{seen, markAll, unmet}
 use Rattle.slots.specs.Walk.{Path}
-use Rattle.slots.proofs.Seen.{seen}
 use Rattle.slots.proofs.Walks.{pass-unmet}
 use Rattle.walks.specs.declared.walk.LiveWalk.{LiveWalk}
 use Rattle.walks.specs.Walk.{endsWell, livePath, LiveWalked}

@@ -8,15 +8,12 @@ use native.Mathlib.Nat.{le-of-suc-le-suc, not-suc-le-zero}
 use native.Mathlib.Decide.{decLt}
 use native.Mathlib.Omega.{arith}
 use lib.Dec.{eqb, eqb·suc-zero}
-use lib.ListN.{length, getD, set, length-set, replicate, getD-replicate, length-replicate, List·getD-eq-default}
+use lib.ListN.{length, getD, set, length-set, replicate, getD-replicate, List·getD-eq-default}
 use lib.Seq.{getD-set-same, getD-set-other}
 use Rattle.books.proofs.Tests.{not-both}
 use Rattle.chains.specs.Count.{hit}
 use Rattle.slots.specs.Met.{isMetOf, markOf, unmet}
-
--- 1 where the slot was met, else 0
-abbrev pub seen : List ℕ → ℕ → ℕ
-seen met y = cond (isMetOf met y) 1 0
+pub use Rattle.slots.specs.Met.{seen}
 
 pub seen-le : (met : List ℕ) (y : ℕ) → seen met y ≤ 1
 seen-le met y = go (isMetOf met y)
@@ -25,16 +22,13 @@ seen-le met y = go (isMetOf met y)
     go true = omega arith
     go false = omega arith
 
--- a slot is not met exactly where it is not seen
+-- a slot that is not seen was not met
 pub seen-unmet : (met : List ℕ) (y : ℕ) → seen met y ≡ 0 → isMetOf met y ≡ false
 seen-unmet met y = go (isMetOf met y)
   where
     go : (b : Bool) → cond b 1 0 ≡ zero → b ≡ false
     go true h = absurd (omega arith)
     go false h = refl
-
-pub unmet-seen : (met : List ℕ) (y : ℕ) → isMetOf met y ≡ false → seen met y ≡ 0
-unmet-seen met y h = rw h
 
 -- ---- one slot is marked
 
@@ -67,15 +61,9 @@ unmet-le (suc b ∷ met) = omega (arith, unmet-le met)
 
 -- ---- the record before the first slot is met
 
-module _ (n y : ℕ) where
-  pub seen-none : y < n → seen (replicate n 0) y ≡ 0
-  unfolding isMetOf
-  seen-none h = rw (getD-replicate n y zero 1 h)
-
-  -- a slot that it has no place for
-  pub seen-past : n ≤ y → seen (replicate n 0) y ≡ 1
-  unfolding isMetOf
-  seen-past h = rw (List·getD-eq-default (replicate n zero) 1 {n = y} (omega (arith, length-replicate n zero)))
+pub seen-none : (n y : ℕ) → y < n → seen (replicate n 0) y ≡ 0
+unfolding isMetOf
+seen-none n y h = rw (getD-replicate n y zero 1 h)
 
 -- ---- what the code reads
 

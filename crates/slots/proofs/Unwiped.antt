@@ -14,7 +14,7 @@ use Rattle.chains.specs.Count.{count}
 use Rattle.chains.specs.Chain.{cell}
 use Rattle.chains.proofs.Count.{hit-other, count-first}
 use Rattle.chains.proofs.Ends.{first-not-null}
-use Rattle.slots.specs.Walk.{lower, unwipedFrom}
+use Rattle.slots.specs.Walk.{lower, unwipedFrom, Lowest}
 
 pub unwiped-append : (values xs ys : List ℕ) (least : ℕ) → unwipedFrom values (xs ++ ys) least ≡ unwipedFrom values ys (unwipedFrom values xs least)
 unwiped-append values [] ys least = refl
@@ -83,12 +83,6 @@ gathered values (x ∷ xs) least z = go (ℕ-discrete (cell values x) wipeWord) 
             → (0 < unwipedFrom values xs (lower x least)) × (unwipedFrom values xs (lower x least) ≤ y)
         at y h n (yes k) r l p q = (p, omega (arith, l .under))
         at y h n (no k) r l p q = r .slots y (omega (arith, hit-other y x k)) n
-
--- a slot of the sequence that is not wiped, and no lower one is so
-pub record Lowest (values xs : List ℕ) (low : ℕ) : Type 0 where
-  pub inside : 0 < count low xs
-  pub notWiped : cell values low ≢ wipeWord
-  pub lowest : (y : ℕ) → 0 < count y xs → cell values y ≢ wipeWord → low ≤ y
 
 module _ (values xs : List ℕ) (z : count 0 xs ≡ 0) where
   -- no slot is gathered exactly where each is wiped

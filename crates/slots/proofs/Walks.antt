@@ -17,34 +17,16 @@ use Rattle.chains.specs.Chain.{cell, firstOr, Linked, after, IdleChain}
 use Rattle.chains.proofs.Count.{hit-same, hit-other}
 use Rattle.chains.proofs.Chain.{Chain, linked-iff}
 use Rattle.slots.specs.declared.walk.IdleWalk.{IdleWalk}
-use Rattle.slots.specs.Met.{isMetOf, markOf, markAll, unmet}
-use Rattle.slots.specs.Walk.{Path, passing, walkOn, walkFrom, idleOnward, idlePath, unwipedFrom, IdleWalked}
-use Rattle.slots.proofs.Seen.{seen, seen-le, seen-unmet, seen-mark, unmet-mark}
+use Rattle.slots.specs.Met.{isMetOf, seen, markOf, markAll, unmet}
+use Rattle.slots.specs.Walk.{Path, passing, walkOn, walkFrom, Passes, Along, Adds, idleOnward, idlePath, unwipedFrom, IdleWalked}
+use Rattle.slots.proofs.Seen.{seen-le, seen-unmet, seen-mark, unmet-mark}
 use Rattle.slots.proofs.Going.{end-here, pass-on}
-
--- `xs` is a chain from `head` on, of slots from 1 to N-1 that were not met, none of them twice
-pub record Along (op : ℕ → ℕ → ℕ) (links met : List ℕ) (head : ℕ) (xs : List ℕ) : Type 0 where
-  pub starts : head ≡ firstOr 0 xs
-  pub linked : Linked op (cell links) xs
-  pub inside : (y : ℕ) → 0 < count y xs → (0 < y) × (y < length links)
-  pub once : (y : ℕ) → seen met y + count y xs ≤ 1
-
--- `xs` has so many slots, and `met′` is the record with just these met besides
-pub record Adds (met : List ℕ) (many : ℕ) (met′ xs : List ℕ) : Type 0 where
-  pub counted : many ≡ length xs
-  pub marks : (y : ℕ) → seen met′ y ≡ seen met y + count y xs
 
 module _ (links : List ℕ) where
   -- each slot in turn is from 1 to N-1 and was not met
   abbrev Fresh : List ℕ → List ℕ → Type 0
   Fresh met [] = Unit
   Fresh met (x ∷ xs) = (0 < x) × (x < length links) × (isMetOf met x ≡ false) × Fresh (markOf met x) xs
-
-  -- what is so of the slots that a walk passes
-  pub record Passes (met slots : List ℕ) : Type 0 where
-    pub marks : (y : ℕ) → seen (markAll met slots) y ≡ seen met y + count y slots
-    pub inside : (y : ℕ) → 0 < count y slots → (0 < y) × (y < length links)
-    pub once : (y : ℕ) → seen met y + count y slots ≤ 1
 
   fresh-marks : (met xs : List ℕ) → Fresh met xs → (y : ℕ) → seen (markAll met xs) y ≡ seen met y + count y xs
   fresh-marks met [] f y = omega arith
@@ -58,7 +40,7 @@ module _ (links : List ℕ) where
       go (yes e) r = rw e (f .0, f .1)
       go (no e) r = r (omega (arith, hit-other y x e))
 
-  passes : (met xs : List ℕ) → Fresh met xs → Passes met xs
+  passes : (met xs : List ℕ) → Fresh met xs → Passes links met xs
   passes met xs f =
       record { marks = fresh-marks met xs f; inside = fresh-inside met xs f; once = λ y. omega (arith, fresh-marks met xs f y, seen-le (markAll met xs) y) }
 
@@ -83,7 +65,7 @@ module _ (links : List ℕ) where
         (λ h. tt))
 
     -- whether it comes to its end or not, a walk passes slots that were not met, each once, and marks just these
-    pub walk-fresh : (met : List ℕ) (head : ℕ) → Passes met (walkFrom onward links met head .slots)
+    pub walk-fresh : (met : List ℕ) (head : ℕ) → Passes links met (walkFrom onward links met head .slots)
     walk-fresh met head = passes met (walkFrom onward links met head .slots) (walk-on-fresh (suc (unmet met)) met nullSlot head)
 
     module _ (op : ℕ → ℕ → ℕ) where

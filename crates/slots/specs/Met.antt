@@ -1,5 +1,5 @@
 -- The record of slots met: one byte a slot, 0 where the slot was not met. A slot that the record has no place for counts as met.
-use mathlib.Core.Bool.{Bool, not}
+use mathlib.Core.Bool.{Bool, cond, not}
 use mathlib.Core.List.{List, [], _∷_}
 use Prim.Native.Nat.{ℕ, zero, suc}
 use lib.Dec.{eqb}
@@ -7,6 +7,10 @@ use lib.ListN.{getD, set}
 
 unfoldable pub isMetOf : List ℕ → ℕ → Bool
 isMetOf met slot = not (eqb (getD met slot 1) 0)
+
+-- 1 where the slot was met, else 0, so that how often a slot is met and how often it stands in a sequence can be added
+abbrev pub seen : List ℕ → ℕ → ℕ
+seen met y = cond (isMetOf met y) 1 0
 
 unfoldable pub markOf : List ℕ → ℕ → List ℕ
 markOf met slot = set met slot 1

@@ -1,14 +1,16 @@
 -- A walk along a chain: which slots it passes, and whether it came to the end. One definition for the live chains and the idle chain.
 use mathlib.Core.Path.{_≡_}
+use mathlib.Core.Logic.{_≢_}
 use mathlib.Core.Bool.{Bool, true, false, cond, not, _&&_}
 use mathlib.Core.List.{List, [], _∷_}
-use Prim.Native.Nat.{ℕ, zero, suc}
+use Prim.Native.Nat.{ℕ, zero, suc, _+_, _≤_, _<_}
 use lib.Dec.{ltb, eqb}
 use lib.ListN.{length}
 use Rattle.books.specs.declared.Free.{Free}
 use Rattle.books.specs.Book.{nullSlot, wipeWord}
-use Rattle.chains.specs.Chain.{cell}
-use Rattle.slots.specs.Met.{isMetOf, markOf, markAll, unmet}
+use Rattle.chains.specs.Count.{count}
+use Rattle.chains.specs.Chain.{cell, firstOr, Linked}
+use Rattle.slots.specs.Met.{isMetOf, seen, markOf, markAll, unmet}
 use Rattle.slots.specs.declared.walk.IdleWalk.{IdleWalk}
 
 -- the slots that were passed, and whether the next one was null
@@ -33,6 +35,24 @@ walkOn onward links (suc steps) met before slot =
 abbrev pub walkFrom : (onward : ℕ → ℕ → ℕ) → List ℕ → List ℕ → ℕ → Path
 walkFrom onward links met head = walkOn onward links (suc (unmet met)) met nullSlot head
 
+-- what is so of the slots that a walk passes: they are from 1 to N-1, none was met or is passed twice, and marking them marks just these
+pub record Passes (links met slots : List ℕ) : Type 0 where
+  pub marks : (y : ℕ) → seen (markAll met slots) y ≡ seen met y + count y slots
+  pub inside : (y : ℕ) → 0 < count y slots → (0 < y) × (y < length links)
+  pub once : (y : ℕ) → seen met y + count y slots ≤ 1
+
+-- `xs` is a chain from `head` on, of slots from 1 to N-1 that were not met, none of them twice. `op p n` is the link of a slot between p and n
+pub record Along (op : ℕ → ℕ → ℕ) (links met : List ℕ) (head : ℕ) (xs : List ℕ) : Type 0 where
+  pub starts : head ≡ firstOr 0 xs
+  pub linked : Linked op (cell links) xs
+  pub inside : (y : ℕ) → 0 < count y xs → (0 < y) × (y < length links)
+  pub once : (y : ℕ) → seen met y + count y xs ≤ 1
+
+-- `xs` has so many slots, and `met′` is the record with just these met besides
+pub record Adds (met : List ℕ) (many : ℕ) (met′ xs : List ℕ) : Type 0 where
+  pub counted : many ≡ length xs
+  pub marks : (y : ℕ) → seen met′ y ≡ seen met y + count y xs
+
 -- of the idle chain, the slot after is the link itself
 abbrev pub idleOnward : ℕ → ℕ → ℕ
 idleOnward before link = link
@@ -45,6 +65,12 @@ lower slot least = cond (eqb least nullSlot) slot (cond (ltb slot least) slot le
 abbrev pub unwipedFrom : List ℕ → List ℕ → ℕ → ℕ
 unwipedFrom values [] least = least
 unwipedFrom values (x ∷ xs) least = unwipedFrom values xs (cond (eqb (cell values x) wipeWord) least (lower x least))
+
+-- `low` is a slot of the sequence whose value is not the wipe word, and no lower one is so
+pub record Lowest (values xs : List ℕ) (low : ℕ) : Type 0 where
+  pub inside : 0 < count low xs
+  pub notWiped : cell values low ≢ wipeWord
+  pub lowest : (y : ℕ) → 0 < count y xs → cell values y ≢ wipeWord → low ≤ y
 
 -- the walk along the idle chain
 abbrev pub idlePath : List ℕ → List ℕ → Free → Path

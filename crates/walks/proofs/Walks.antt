@@ -13,11 +13,10 @@ use Rattle.books.proofs.Tests.{and-both}
 use Rattle.chains.specs.Count.{count}
 use Rattle.chains.specs.Chain.{firstOr, lastOr, LiveChain}
 use Rattle.chains.proofs.Xor.{xor-cancel-l, xor-cancel-out}
-use Rattle.slots.specs.Met.{markAll}
-use Rattle.slots.specs.Walk.{walkFrom}
-use Rattle.slots.proofs.Seen.{seen}
+use Rattle.slots.specs.Met.{seen, markAll}
+use Rattle.slots.specs.Walk.{walkFrom, Passes, Along, Adds}
 use Rattle.slots.proofs.Going.{Going}
-use Rattle.slots.proofs.Walks.{Along, Adds, Passes, walk-fresh, walk-only, walk-finds}
+use Rattle.slots.proofs.Walks.{walk-fresh, walk-only, walk-finds}
 use Rattle.walks.specs.declared.walk.LiveWalk.{LiveWalk}
 use Rattle.walks.specs.Walk.{liveOnward, livePath, LiveWalked}
 
