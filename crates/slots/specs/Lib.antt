@@ -1,4 +1,4 @@
--- What a reader of the slot layer believes: which numbers are slots, and what taking and releasing one give.
+-- What a reader of the slot layer believes: which numbers are slots, what taking and releasing one give, the record of slots met, and the walk along a chain.
 pub mod Slot
 pub mod Model
 pub mod Meaning
