@@ -1,4 +1,4 @@
-// The records of a pool's book, which no engine owns: what the book is, its constants, and whether it keeps the book rules.
+// The records of a pool's book: what the book is, its constants, and whether it keeps the book rules; nothing here knows of links.
 pub mod rows;
 
 ghost use mathlib.Core.Path.{_≡_};
