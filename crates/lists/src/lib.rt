@@ -200,7 +200,7 @@ fn refused_pop(list: Entry, free: Free) -> Popped
 }
 
 // The value of a slot that was released, with the list as it is then.
-fn handed_out(value: u64, list: Entry, freed: Released) -> Popped
+fn done_pop(value: u64, list: Entry, freed: Released) -> Popped
     ensures { λ r. ⌜ r ≡ donePop value list freed ⌝ }
 {
     let rest = freed.free;
@@ -269,7 +269,7 @@ fn pop(links: &mut [u16], values: &mut [u64], end: End, list: Entry, free: Free)
     let value = values[i];
     if near == Book::NULL {
         let freed = slots::release(links, values, old, free);
-        return handed_out(value, emptied(list), freed);
+        return done_pop(value, emptied(list), freed);
     }
     if !is_beside(links, values, near, old) {
         return refused_pop(list, free);
@@ -277,5 +277,5 @@ fn pop(links: &mut [u16], values: &mut [u64], end: End, list: Entry, free: Free)
     let freed = slots::release(links, values, old, free);
     let j = books::wide(near);
     links[j] = links[j] ^ old;
-    handed_out(value, with_near(end, near, list), freed)
+    done_pop(value, with_near(end, near, list), freed)
 }

@@ -42,7 +42,7 @@ returns-2 : tie.Need-returns-2
 unfolding popOf
 returns-2 c =
     simp (
-      c .handed-out .ensures,
+      c .done-pop .ensures,
       c .before .emptied .ensures,
       ← c .before .before .before .before .before .before .before .before .before .before .before .before .before .before .before .before .near-of .ensures,
       ← c .before .before .before .before .before .before .before .before .before .before .before .before .before .in-pool .ensures,
@@ -72,7 +72,7 @@ returns-4 : tie.Need-returns-4
 unfolding popOf
 returns-4 c =
     simp (
-      c .handed-out2 .ensures,
+      c .done-pop2 .ensures,
       c .before .with-near .ensures,
       ← c .before .before .before .before .before .before .before .before .before .before .before .before .before .before .before .before .before .before .before .before .before .before .near-of .ensures,
       ← c .before .before .before .before .before .before .before .before .before .before .before .before .before .before .before .before .before .before .before .in-pool .ensures,
