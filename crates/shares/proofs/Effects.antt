@@ -15,8 +15,6 @@ use Rattle.books.specs.Outcome.{Outcome, outcome}
 use Rattle.chains.specs.Count.{hit, count}
 use Rattle.chains.specs.Chain.{cell}
 use Rattle.chains.proofs.Count.{hit-same, count-first, count-apart, one-other}
-use Rattle.slots.specs.Model.{takeOf}
-use Rattle.slots.proofs.Laws.{take-done}
 use Rattle.lists.specs.declared.End.{End}
 use Rattle.lists.specs.declared.End.the-variants.{Front, Back}
 use Rattle.lists.specs.declared.Pushed.{Pushed}
@@ -24,7 +22,7 @@ use Rattle.lists.specs.declared.Popped.{Popped}
 use Rattle.lists.specs.Model.{nearOf, pushOf, popOf}
 use Rattle.lists.specs.Meaning.{joined, contents, Held, Joins, Leaves, PushDone, PopDone}
 use Rattle.lists.proofs.Steps.{push-done, pop-done}
-use Rattle.lists.proofs.Front.{in-list, in-idle, contents-same}
+use Rattle.lists.proofs.Front.{in-list, contents-same}
 use Rattle.lists.proofs.Ends.{push-held, pop-held}
 use Rattle.walks.specs.declared.clear.Cleared.{Cleared}
 use Rattle.walks.specs.Clear.{clearOn, Emptied, Empties}
@@ -88,14 +86,6 @@ module _ {links values : List ℕ} {b : AnyBook} {s : Shape} (S : SoundBook link
       contents-same values values′ (chainAt s k) (λ y p. let o = two-parts (S .pool) l k y d in same y (omega (arith, at-most (S .pool) y)) (omega (arith, at-most (S .pool) y)))
 
   -- ---- push
-
-  -- where there is room the slot layer does not answer none
-  pub room-takes : Room (take (b .lists) (b .entries)) s l → takeOf links values (b .free) .done ≡ true
-  room-takes room = go (s .idle) (room-slot (S .pool) l (listed S l below) room) book-held
-    where
-      go : (fs : List ℕ) → 0 < length fs → Held links values (entryAt (b .entries) l) (b .free) (chainAt s l) fs → takeOf links values (b .free) .done ≡ true
-      go [] h H = absurd (not-suc-le-zero h)
-      go (f ∷ fs) h H = take-done links values (b .free) (rw (H .freeHead) (in-idle H f (count-first f fs))) .done
 
   pub pushes : (end : End) (value : ℕ) → Room (take (b .lists) (b .entries)) s l → Pushes end links values b l value s (afterPush links values b l end value)
   pushes end value room = go (s .idle) refl (room-slot (S .pool) l (listed S l below) room)
