@@ -7,14 +7,14 @@ use native.Mathlib.Decide.{ℕ-discrete, decLe}
 use native.Mathlib.Omega.{arith}
 use lib.ListN.{length, take}
 use Rattle.books.specs.declared.Entry.{Entry}
-use Rattle.books.specs.Book.{AnyBook}
+use Rattle.books.specs.Book.{entryAt, AnyBook}
 use Rattle.lists.specs.declared.End.{End}
 use Rattle.pools.specs.Sound.{Shape, chainAt, lacks, SoundBook, Room}
 use Rattle.pools.specs.Size.{SizesFit}
 use Rattle.pools.proofs.Found.{sound-sizes, entry-is, within}
 use Rattle.shares.specs.Numbers.{Condition, condition, Given}
 use Rattle.shares.specs.Numbers as N
-use Rattle.shares.specs.Calls.{OfShape, checkConditions, entryOf, listConditions, pushConditions, popConditions, pushCall, popCall}
+use Rattle.shares.specs.Calls.{OfShape, checkConditions, listConditions, pushConditions, popConditions, pushCall, popCall}
 use Rattle.shares.proofs.Numbers.{given-only}
 use Rattle.shares.proofs.Effects.{unique-book}
 use Rattle.shares.proofs.When.{push-given, pop-given}
@@ -50,7 +50,7 @@ data Way (many limit share free lacking number : ℕ) : Type 0 where
 
 module _ {links values : List ℕ} {b : AnyBook} {s : Shape} (S : SoundBook links values b s) (l : ℕ) (below : l < b .lists) where
   abbrev e : Entry
-  e = entryOf b l
+  e = entryAt (b .entries) l
 
   abbrev many : ℕ
   many = length (chainAt s l)

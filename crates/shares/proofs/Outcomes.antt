@@ -16,7 +16,7 @@ use Rattle.lists.specs.declared.End.{End}
 use Rattle.shares.specs.declared.Length.{Length}
 use Rattle.pools.specs.Sound.{Shape, chainAt, lacks, SoundBook, Room}
 use Rattle.shares.specs.Numbers.{Test, firstThat, decided}
-use Rattle.shares.specs.Calls.{readOwnTests, Called, ReadLeft, entryOf, foundOf, pushOwnTests, popOwnTests, listTests, pushTests, popTests, readTests, notCalled, afterPush, afterPop, afterClear, lengthCall, pushCall, popCall, clearCall, readCall}
+use Rattle.shares.specs.Calls.{readOwnTests, Called, ReadLeft, foundOf, pushOwnTests, popOwnTests, listTests, pushTests, popTests, readTests, notCalled, afterPush, afterPop, afterClear, lengthCall, pushCall, popCall, clearCall, readCall}
 use Rattle.shares.specs.Done.{Refused, Pushes, Pops, Clears, Reads, ReadRefused}
 use Rattle.pools.proofs.Found.{entry-is, found-length, found-lacks, found-free, within}
 use Rattle.shares.proofs.Numbers.{decided-ind, first-first, first-then}
@@ -76,17 +76,17 @@ module _ (links values : List ℕ) (b : AnyBook) (l : ℕ) where
   -- ---- the pushes
 
   abbrev ownRoom : List Test
-  ownRoom = pushOwnTests (entryOf b l) (foundOf links values b l .length) (foundOf links values b l .lacks) (foundOf links values b l .free)
+  ownRoom = pushOwnTests (entryAt (b .entries) l) (foundOf links values b l .length) (foundOf links values b l .lacks) (foundOf links values b l .free)
 
   has-room : (s : Shape) → SoundBook links values b s → l < b .lists → firstThat ownRoom ≡ 0 → Room (take (b .lists) (b .entries)) s l
   has-room s S below y =
-      let (u, v) = roomy (entryOf b l) (foundOf links values b l .length) (foundOf links values b l .lacks) (foundOf links values b l .free) (omega (arith, found-length S l below, within S l below)) y in
+      let (u, v) = roomy (entryAt (b .entries) l) (foundOf links values b l .length) (foundOf links values b l .lacks) (foundOf links values b l .free) (omega (arith, found-length S l below, within S l below)) y in
       record {
         under = omega (arith, found-length S l below, ap (λ (e : Entry). e .limit) (entry-is S l below));
         enough = left v;
       }
     where
-      left : (foundOf links values b l .length < entryOf b l .share) ⊎ (foundOf links values b l .lacks < foundOf links values b l .free)
+      left : (foundOf links values b l .length < entryAt (b .entries) l .share) ⊎ (foundOf links values b l .lacks < foundOf links values b l .free)
           → (length (chainAt s l) < entryAt (take (b .lists) (b .entries)) l .share) ⊎ (lacks (take (b .lists) (b .entries)) (s .chains) < length (s .idle))
       left (inl k) = inl (omega (arith, found-length S l below, ap (λ (e : Entry). e .share) (entry-is S l below)))
       left (inr k) = inr (omega (arith, found-lacks S l, found-free S l))

@@ -22,7 +22,7 @@ use Rattle.shares.specs.declared.Read.{Read}
 use Rattle.pools.specs.declared.check.Found.{Found}
 use Rattle.pools.specs.declared.check.Looked.{Looked}
 use Rattle.shares.specs.Numbers.{Test, firstThat}
-use Rattle.shares.specs.Calls.{pushOwnTests, popOwnTests, readOwnTests, entryOf, foundOf, onListOf, readLeft, readOf, withList, asAnswer, asPopped, notCalled, lengthCall, pushCall, popCall, clearCall, readCall}
+use Rattle.shares.specs.Calls.{pushOwnTests, popOwnTests, readOwnTests, foundOf, onListOf, readLeft, readOf, withList, asAnswer, asPopped, notCalled, lengthCall, pushCall, popCall, clearCall, readCall}
 use Rattle.shares.proofs.Found.{on-list-found, on-list-below, on-list-length, read-count, by-list, by-call, goes}
 
 -- the answer of a call that changes the book, and of a pop
@@ -35,14 +35,14 @@ popped number value book = record { given = record { refusal = record { number =
 -- `seen` is what the test of 1, 3 and 4 gave
 module _ (links values : List ℕ) (b : AnyBook) (l : ℕ) (seen : Looked) (e : seen ≡ onListOf links values b l) where
   -- the tests of a push, a pop and a read of their own
-  abbrev room : Found → ℕ → List Test
-  room f k = pushOwnTests (entryAt (b .entries) k) (f .length) (f .lacks) (f .free)
+  abbrev pushOwn : Found → ℕ → List Test
+  pushOwn f k = pushOwnTests (entryAt (b .entries) k) (f .length) (f .lacks) (f .free)
 
-  abbrev some : Found → List Test
-  some f = popOwnTests (f .length)
+  abbrev popOwn : Found → List Test
+  popOwn f = popOwnTests (f .length)
 
-  abbrev place : List ℕ → ℕ → Found → List Test
-  place buffer at f = readOwnTests (f .length) (length buffer) at
+  abbrev readOwn : List ℕ → ℕ → Found → List Test
+  readOwn buffer at f = readOwnTests (f .length) (length buffer) at
 
   -- ---- 1, 3 or 4 applies
 
@@ -60,15 +60,15 @@ module _ (links values : List ℕ) (b : AnyBook) (l : ℕ) (seen : Looked) (e : 
 
     pub push-stopped : (end : End) (value : ℕ) → outcome (answer (seen .refusal .number) (bookOf b)) links values ≡ asAnswer (pushCall links values b l end value)
     unfolding pushCall
-    push-stopped end value = rw e (ap asAnswer (sym (by-list links values b l (room (foundOf links values b l) l) _ (notCalled links values b) applies)))
+    push-stopped end value = rw e (ap asAnswer (sym (by-list links values b l (pushOwn (foundOf links values b l) l) _ (notCalled links values b) applies)))
 
     pub pop-stopped : (end : End) {r : Popped} → r ≡ popped (seen .refusal .number) 0 (bookOf b) → outcome r links values ≡ asPopped (popCall links values b l end)
     unfolding popCall
-    pop-stopped end p = rw (p, e) (ap asPopped (sym (by-list links values b l (some (foundOf links values b l)) _ (notCalled links values b) applies)))
+    pop-stopped end p = rw (p, e) (ap asPopped (sym (by-list links values b l (popOwn (foundOf links values b l)) _ (notCalled links values b) applies)))
 
     pub read-stopped : (end : End) (buffer : List ℕ) (at : ℕ) {r : Read} → r ≡ readOf (seen .refusal .number) 0 → readLeft r buffer ≡ readCall links values b l end buffer at
     unfolding readCall
-    read-stopped end buffer at p = rw (p, e) (sym (by-list links values b l (place buffer at (foundOf links values b l)) _ (λ n. readLeft (readOf n 0) buffer) applies))
+    read-stopped end buffer at p = rw (p, e) (sym (by-list links values b l (readOwn buffer at (foundOf links values b l)) _ (λ n. readLeft (readOf n 0) buffer) applies))
 
   -- ---- none of them applies
 
@@ -102,13 +102,13 @@ module _ (links values : List ℕ) (b : AnyBook) (l : ℕ) (seen : Looked) (e : 
         ∙ ap asAnswer (sym (goes links values b l [] _ (notCalled links values b) passes refl)))
 
     -- a push's own tests
-    module _ (k : ℕ) (p : k ≡ l) (number : ℕ) (t : number ≡ firstThat (room (seen .found) k)) where
-      own-room : number ≡ firstThat (room (foundOf links values b l) l)
-      own-room = t ∙ ap (λ (f : Found). firstThat (room f k)) found ∙ ap (λ (n : ℕ). firstThat (room (foundOf links values b l) n)) p
+    module _ (k : ℕ) (p : k ≡ l) (number : ℕ) (t : number ≡ firstThat (pushOwn (seen .found) k)) where
+      own-push : number ≡ firstThat (pushOwn (foundOf links values b l) l)
+      own-push = t ∙ ap (λ (f : Found). firstThat (pushOwn f k)) found ∙ ap (λ (n : ℕ). firstThat (pushOwn (foundOf links values b l) n)) p
 
       pub push-full : number ≢ 0 → (end : End) (value : ℕ) → outcome (answer number (bookOf b)) links values ≡ asAnswer (pushCall links values b l end value)
       unfolding pushCall
-      push-full d end value = rw own-room (ap asAnswer (sym (by-call links values b l (room (foundOf links values b l) l) _ (notCalled links values b) passes (rw own-room at d))))
+      push-full d end value = rw own-push (ap asAnswer (sym (by-call links values b l (pushOwn (foundOf links values b l) l) _ (notCalled links values b) passes (rw own-push at d))))
 
       pub push-went : number ≡ 0 → (end : End) (value : ℕ) {r : Pushed} {newLinks newValues : List ℕ} {after : Book}
           → outcome r newLinks newValues ≡ pushOf end links values (entryAt (b .entries) k) (b .free) value
@@ -118,16 +118,16 @@ module _ (links values : List ℕ) (b : AnyBook) (l : ℕ) (seen : Looked) (e : 
       push-went n end value q h =
           rw (h, p)
           (ap (λ (r : Outcome Pushed). outcome (answer 0 (bookOf (withList b l (r .answer .entry) (r .answer .free)))) (r .links) (r .values)) (rw p at q)
-          ∙ ap asAnswer (sym (goes links values b l (room (foundOf links values b l) l) _ (notCalled links values b) passes (sym own-room ∙ n))))
+          ∙ ap asAnswer (sym (goes links values b l (pushOwn (foundOf links values b l) l) _ (notCalled links values b) passes (sym own-push ∙ n))))
 
     -- a pop's
-    module _ (number : ℕ) (t : number ≡ firstThat (some (seen .found))) where
-      own-some : number ≡ firstThat (some (foundOf links values b l))
-      own-some = t ∙ ap (λ (f : Found). firstThat (some f)) found
+    module _ (number : ℕ) (t : number ≡ firstThat (popOwn (seen .found))) where
+      own-pop : number ≡ firstThat (popOwn (foundOf links values b l))
+      own-pop = t ∙ ap (λ (f : Found). firstThat (popOwn f)) found
 
       pub pop-empty : number ≢ 0 → (end : End) {r : Popped} → r ≡ popped number 0 (bookOf b) → outcome r links values ≡ asPopped (popCall links values b l end)
       unfolding popCall
-      pop-empty d end h = rw (h, own-some) (ap asPopped (sym (by-call links values b l (some (foundOf links values b l)) _ (notCalled links values b) passes (rw own-some at d))))
+      pop-empty d end h = rw (h, own-pop) (ap asPopped (sym (by-call links values b l (popOwn (foundOf links values b l)) _ (notCalled links values b) passes (rw own-pop at d))))
 
       pub pop-went : number ≡ 0 → (end : End) {k : ℕ} {r : L.Popped} {newLinks newValues : List ℕ} {after : Book} → k ≡ l
           → outcome r newLinks newValues ≡ popOf end links values (entryAt (b .entries) k) (b .free)
@@ -137,26 +137,26 @@ module _ (links values : List ℕ) (b : AnyBook) (l : ℕ) (seen : Looked) (e : 
       pop-went n end p q h =
           rw (h, p)
           (ap (λ (r : Outcome L.Popped). outcome (popped 0 (r .answer .value) (bookOf (withList b l (r .answer .entry) (r .answer .free)))) (r .links) (r .values)) (rw p at q)
-          ∙ ap asPopped (sym (goes links values b l (some (foundOf links values b l)) _ (notCalled links values b) passes (sym own-some ∙ n))))
+          ∙ ap asPopped (sym (goes links values b l (popOwn (foundOf links values b l)) _ (notCalled links values b) passes (sym own-pop ∙ n))))
 
     -- a read's
-    module _ (end : End) (buffer : List ℕ) (at : ℕ) (number : ℕ) (t : number ≡ firstThat (place buffer at (seen .found))) where
-      own-place : number ≡ firstThat (place buffer at (foundOf links values b l))
-      own-place = t ∙ ap (λ (f : Found). firstThat (place buffer at f)) found
+    module _ (end : End) (buffer : List ℕ) (at : ℕ) (number : ℕ) (t : number ≡ firstThat (readOwn buffer at (seen .found))) where
+      own-read : number ≡ firstThat (readOwn buffer at (foundOf links values b l))
+      own-read = t ∙ ap (λ (f : Found). firstThat (readOwn buffer at f)) found
 
       pub read-full : number ≢ 0 → {r : Read} → r ≡ readOf number 0 → readLeft r buffer ≡ readCall links values b l end buffer at
       unfolding readCall
-      read-full d h = rw (h, own-place) (sym (by-call links values b l (place buffer at (foundOf links values b l)) _ (λ n. readLeft (readOf n 0) buffer) passes (rw own-place at d)))
+      read-full d h = rw (h, own-read) (sym (by-call links values b l (readOwn buffer at (foundOf links values b l)) _ (λ n. readLeft (readOf n 0) buffer) passes (rw own-read at d)))
 
       module _ (n : number ≡ 0) (k start : ℕ) (p : k ≡ l) (s : start ≡ nearOf end (entryAt (b .entries) k)) where
-        from : start ≡ nearOf end (entryOf b l)
+        from : start ≡ nearOf end (entryAt (b .entries) l)
         from = rw p at s
 
         pub read-fits : {count : ℕ} → count ≡ countRead links values start buffer at → count < 65536
-        read-fits h = omega (arith, h, ap (λ (x : ℕ). countRead links values x buffer at) from, read-count links values b l end buffer at passes (sym own-place ∙ n))
+        read-fits h = omega (arith, h, ap (λ (x : ℕ). countRead links values x buffer at) from, read-count links values b l end buffer at passes (sym own-read ∙ n))
 
         pub read-went : {count : ℕ} {left : List ℕ} → (count ≡ countRead links values start buffer at) × (left ≡ bufferAfter links values start buffer at)
             → readLeft (readOf 0 count) left ≡ readCall links values b l end buffer at
         unfolding readCall
         read-went (h, g) =
-            rw (h, g, from) (sym (goes links values b l (place buffer at (foundOf links values b l)) _ (λ n. readLeft (readOf n 0) buffer) passes (sym own-place ∙ n)))
+            rw (h, g, from) (sym (goes links values b l (readOwn buffer at (foundOf links values b l)) _ (λ n. readLeft (readOf n 0) buffer) passes (sym own-read ∙ n)))

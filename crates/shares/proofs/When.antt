@@ -9,7 +9,7 @@ use lib.Dec.{leb, ltb, eqb}
 use lib.ListN.{length, take}
 use borrow.Author.Tests.{eqb-true, eq-eqb, leb-true, leb-false, le-leb, lt-leb, ltb-true, lt-ltb}
 use Rattle.books.specs.declared.Entry.{Entry}
-use Rattle.books.specs.Book.{AnyBook}
+use Rattle.books.specs.Book.{entryAt, AnyBook}
 use Rattle.books.specs.Outcome.{Outcome}
 use Rattle.books.proofs.Tests.{and-both, both-and, not-both}
 use Rattle.lists.specs.declared.End.{End}
@@ -18,7 +18,7 @@ use Rattle.pools.specs.Size.{SizesFit, sizesFit}
 use Rattle.shares.specs.Numbers.{Test, test, firstThat, Condition, condition, Given}
 use Rattle.pools.specs.Check.{checkFound}
 use Rattle.shares.specs.declared.Length.{Length}
-use Rattle.shares.specs.Calls.{Called, ReadLeft, OfShape, checkTests, checkConditions, entryOf, foundOf, listTests, listConditions, pushTests, pushConditions, popTests, popConditions, readTests, readConditions, checkCall, lengthCall, pushCall, popCall, clearCall, readCall}
+use Rattle.shares.specs.Calls.{Called, ReadLeft, OfShape, checkTests, checkConditions, foundOf, listTests, listConditions, pushTests, pushConditions, popTests, popConditions, readTests, readConditions, checkCall, lengthCall, pushCall, popCall, clearCall, readCall}
 use Rattle.pools.proofs.Size.{sizes-fit}
 use Rattle.shares.proofs.Numbers.{Matches, given, refuted, decided-number}
 use Rattle.shares.proofs.Numbers as N
@@ -70,7 +70,7 @@ module _ (links values : List ℕ) (b : AnyBook) where
         N.one refl (of-found s S (λ t T. no-room t T below)) (λ f. N.none)))
       where
         e : Entry
-        e = entryOf b l
+        e = entryAt (b .entries) l
 
         many : ℕ
         many = foundOf links values b l .length

@@ -28,10 +28,6 @@ use Rattle.pools.specs.Check.{checkFound, refusedBy, lookOf}
 
 -- ---- which number
 
--- list l's entry
-abbrev pub entryOf : AnyBook → ℕ → Entry
-entryOf b l = entryAt (b .entries) l
-
 -- a push's own tests, 6 and 7: of a list that has `many` slots, where the check found `lacking` and `free`
 abbrev pub pushOwnTests : Entry → ℕ → ℕ → ℕ → List Test
 pushOwnTests e many lacking free =
@@ -71,14 +67,14 @@ module _ (links values : List ℕ) (b : AnyBook) where
     listConditions = checkConditions ++ condition 4 (b .lists ≤ l) ∷ []
 
     abbrev pub pushTests : List Test
-    pushTests = listTests ++ pushOwnTests (entryOf b l) (foundOf .length) (foundOf .lacks) (foundOf .free)
+    pushTests = listTests ++ pushOwnTests (entryAt (b .entries) l) (foundOf .length) (foundOf .lacks) (foundOf .free)
 
     -- 01: 6 "length equals limit"; 7 "under the limit, length at least the share, and free slots no more than the sum of lacks"
     abbrev pub pushConditions : List Condition
     pushConditions =
         listConditions
-        ++ condition 6 (OfShape (λ s. length (chainAt s l) ≡ entryOf b l .limit))
-        ∷ condition 7 (OfShape (λ s. (length (chainAt s l) < entryOf b l .limit) × (entryOf b l .share ≤ length (chainAt s l)) × (length (s .idle) ≤ lacks (take (b .lists) (b .entries)) (s .chains))))
+        ++ condition 6 (OfShape (λ s. length (chainAt s l) ≡ entryAt (b .entries) l .limit))
+        ∷ condition 7 (OfShape (λ s. (length (chainAt s l) < entryAt (b .entries) l .limit) × (entryAt (b .entries) l .share ≤ length (chainAt s l)) × (length (s .idle) ≤ lacks (take (b .lists) (b .entries)) (s .chains))))
         ∷ []
 
     abbrev pub popTests : List Test
@@ -143,24 +139,24 @@ module _ (links values : List ℕ) (b : AnyBook) where
     -- what each call leaves where it is done: the step of `lists`, and list l's entry and the idle chain put back into the book
     abbrev pub afterPush : End → ℕ → Outcome Called
     afterPush end value =
-        let r = pushOf end links values (entryOf b l) (b .free) value in
+        let r = pushOf end links values (entryAt (b .entries) l) (b .free) value in
         outcome (called 0 0 (withList b l (r .answer .entry) (r .answer .free))) (r .links) (r .values)
 
     abbrev pub afterPop : End → Outcome Called
     afterPop end =
-        let r = popOf end links values (entryOf b l) (b .free) in
+        let r = popOf end links values (entryAt (b .entries) l) (b .free) in
         outcome (called 0 (r .answer .value) (withList b l (r .answer .entry) (r .answer .free))) (r .links) (r .values)
 
     -- `many` is how many slots the list has
     abbrev pub afterClear : ℕ → Outcome Called
     afterClear many =
-        let r = clearOn many links values (entryOf b l) (b .free) in
+        let r = clearOn many links values (entryAt (b .entries) l) (b .free) in
         outcome (called 0 0 (withList b l (r .answer .entry) (r .answer .free))) (r .links) (r .values)
 
     -- forward is read from the front, backward from the back
     abbrev pub afterRead : End → List ℕ → ℕ → ReadLeft
     afterRead end buffer at =
-        let start = nearOf end (entryOf b l) in
+        let start = nearOf end (entryAt (b .entries) l) in
         readLeft (readOf 0 (countRead links values start buffer at)) (bufferAfter links values start buffer at)
 
 -- ---- the nine calls
