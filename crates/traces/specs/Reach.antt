@@ -1,4 +1,4 @@
--- Every number of every row is given by some call: for each, a pool and arguments that it is given on.
+-- Every number of every row is given by some call: for each, a pool and arguments that it is given on. And the traces on which 6 and 7 are reached.
 use mathlib.Core.Bool.{Bool, true, false, not, _&&_, _||_}
 use mathlib.Core.List.{List, [], _∷_, _++_}
 use Prim.Native.Nat.{ℕ, zero, suc}
@@ -7,6 +7,7 @@ use lib.ListN.{replicate, take}
 use Rattle.books.specs.Table.{mayGive}
 use Rattle.shares.specs.Setup.{setupOf}
 use Rattle.shares.specs.Moves.{State, Move, check, askLength, pushBack, pushFront, popBack, popFront, readForward, readBackward, clear, numberOf}
+use Rattle.traces.specs.Trace.{Ledger, Trace}
 use Rattle.traces.specs.Cases.{twoLists, p1, p3, p9}
 
 -- a call by its row, and a number that it gives
@@ -97,3 +98,7 @@ numbersShown call (suc n) gs = same (mayGive call n) (isShown call n gs) && numb
 abbrev pub callsShown : ℕ → List Gives → Bool
 callsShown zero gs = true
 callsShown (suc m) gs = numbersShown m 9 gs && callsShown m gs
+
+-- a trace of two lists, with the shares and limits of 01's pools
+abbrev pub twoListTrace : State → Ledger → Type 0
+twoListTrace = Trace 2 (2 ∷ 1 ∷ replicate 6 0) (5 ∷ 3 ∷ replicate 6 0)
