@@ -2,24 +2,9 @@
 use mathlib.Core.Path.{_≡_, sym, ap, _∙_}
 use mathlib.Core.List.{List}
 use Prim.Native.Nat.{ℕ}
-use Rattle.books.specs.Outcome.{Outcome, outcome}
-use Rattle.abi.specs.Face.{Changed, changed, Handed, handed, Told, told, Shown, shown, setupFace, checkFace, lengthFace, pushBackFace, pushFrontFace, popBackFace, popFrontFace, readForwardFace, readBackwardFace, clearFace}
-
--- ---- what it is for a promise of each kind to allow one result: what one run leaves and, with a mark, what another does
-
-abbrev OneChange : Outcome Changed → Type 0
-OneChange o = (n n′ : ℕ) (book book′ links links′ values values′ : List ℕ) → outcome (changed n book) links values ≡ o → outcome (changed n′ book′) links′ values′ ≡ o
-    → (n ≡ n′) × (book ≡ book′) × (links ≡ links′) × (values ≡ values′)
-
-abbrev OnePop : Outcome Handed → Type 0
-OnePop o = (n n′ v v′ : ℕ) (book book′ links links′ values values′ : List ℕ) → outcome (handed n v book) links values ≡ o → outcome (handed n′ v′ book′) links′ values′ ≡ o
-    → (n ≡ n′) × (v ≡ v′) × (book ≡ book′) × (links ≡ links′) × (values ≡ values′)
-
-abbrev OneLength : Told → Type 0
-OneLength o = (n n′ v v′ : ℕ) → told n v ≡ o → told n′ v′ ≡ o → (n ≡ n′) × (v ≡ v′)
-
-abbrev OneRead : Shown → Type 0
-OneRead o = (n n′ v v′ : ℕ) (buffer buffer′ : List ℕ) → shown n v buffer ≡ o → shown n′ v′ buffer′ ≡ o → (n ≡ n′) × (v ≡ v′) × (buffer ≡ buffer′)
+use Rattle.books.specs.Outcome.{Outcome}
+use Rattle.abi.specs.Face.{Changed, Handed, Told, Shown, setupFace, checkFace, lengthFace, pushBackFace, pushFrontFace, popBackFace, popFrontFace, readForwardFace, readBackwardFace, clearFace}
+use Rattle.abi.specs.Meaning.{OneChange, OnePop, OneLength, OneRead}
 
 one-change : (o : Outcome Changed) → OneChange o
 one-change o n n′ book book′ links links′ values values′ e f =

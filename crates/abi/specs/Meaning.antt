@@ -1,14 +1,14 @@
--- What a function of the C face owes: the same as the by-value call that it stands for, and nothing changed where it is refused.
+-- What a function of the C face owes: the same as the by-value call that it stands for, nothing changed where it is refused, and one result.
 use mathlib.Core.Path.{_≡_}
 use mathlib.Core.List.{List}
 use Prim.Native.Nat.{ℕ}
 use Rattle.books.specs.Book.{wordsOf}
-use Rattle.books.specs.Outcome.{Outcome}
+use Rattle.books.specs.Outcome.{Outcome, outcome}
 use Rattle.shares.specs.declared.Answer.{Answer}
 use Rattle.shares.specs.declared.Popped.{Popped}
 use Rattle.shares.specs.declared.Length.{Length}
 use Rattle.shares.specs.Calls.{ReadLeft}
-use Rattle.abi.specs.Face.{Changed, Handed, Told, Shown}
+use Rattle.abi.specs.Face.{Changed, changed, Handed, handed, Told, told, Shown, shown}
 
 -- the number, the book, word by word, and both slices are those of the by-value call
 pub record SameChange (o : Outcome Answer) (r : Outcome Changed) : Type 0 where
@@ -53,3 +53,19 @@ pub record NotPopped (links values words : List ℕ) (r : Outcome Handed) : Type
 pub record NotRead (buffer : List ℕ) (r : Shown) : Type 0 where
   pub noCount : r .count ≡ 0
   pub bufferStays : r .buffer ≡ buffer
+
+-- ---- what it is for a promise of each kind to allow one result: what one run leaves and, with a mark, what another does
+
+abbrev pub OneChange : Outcome Changed → Type 0
+OneChange o = (n n′ : ℕ) (book book′ links links′ values values′ : List ℕ) → outcome (changed n book) links values ≡ o → outcome (changed n′ book′) links′ values′ ≡ o
+    → (n ≡ n′) × (book ≡ book′) × (links ≡ links′) × (values ≡ values′)
+
+abbrev pub OnePop : Outcome Handed → Type 0
+OnePop o = (n n′ v v′ : ℕ) (book book′ links links′ values values′ : List ℕ) → outcome (handed n v book) links values ≡ o → outcome (handed n′ v′ book′) links′ values′ ≡ o
+    → (n ≡ n′) × (v ≡ v′) × (book ≡ book′) × (links ≡ links′) × (values ≡ values′)
+
+abbrev pub OneLength : Told → Type 0
+OneLength o = (n n′ v v′ : ℕ) → told n v ≡ o → told n′ v′ ≡ o → (n ≡ n′) × (v ≡ v′)
+
+abbrev pub OneRead : Shown → Type 0
+OneRead o = (n n′ v v′ : ℕ) (buffer buffer′ : List ℕ) → shown n v buffer ≡ o → shown n′ v′ buffer′ ≡ o → (n ≡ n′) × (v ≡ v′) × (buffer ≡ buffer′)
