@@ -13,8 +13,8 @@ use Rattle.shares.specs.declared.Popped.{Popped}
 use Rattle.shares.specs.Numbers.{Given, done, this, later}
 use Rattle.shares.specs.Setup.{setupConditions, setupOf}
 use Rattle.shares.specs.Ten.{pushBackOf, pushFrontOf, popBackOf, popFrontOf}
-use Rattle.shares.specs.Moves.{State, Move, pushBack, pushFront, numberOf, after}
-use Rattle.shares.specs.View.{Holds, left, leftByPop}
+use Rattle.shares.specs.Moves.{State, left, leftByPop, Move, pushBack, pushFront, numberOf, after}
+use Rattle.shares.specs.View.{Holds}
 use Rattle.shares.proofs.Fresh.{setup-given}
 use Rattle.shares.proofs.Upstream.{setup-empty, push-back-appends, push-front-prepends, pop-back-exactly, pop-back-takes-last, pop-front-exactly, pop-front-takes-first}
 use Rattle.traces.specs.Trace.{Ledger, nothingNoted, notedDone, Trace, begins, goesOn}

@@ -12,16 +12,13 @@ use Rattle.pools.proofs.Found.{look-tells}
 use Rattle.shares.specs.Calls.{Called, checkCall, pushCall, popCall, clearCall}
 use Rattle.shares.specs.Done.{Refused, OtherEntries}
 use Rattle.shares.specs.Moves.{State, Move, check, askLength, pushBack, pushFront, popBack, popFront, readForward, readBackward, clear, numberOf, after}
+use Rattle.shares.specs.View.{SoundState}
 use Rattle.shares.proofs.Found.{look-number}
 use Rattle.shares.proofs.Outcomes.{length-done, push-refused, push-done, pop-refused, pop-done, clear-refused, clear-done, read-done}
 
 -- the two slices and the book that a call leaves
 abbrev pub stateOf : Outcome Called → State
 stateOf r = record { links = r .links; values = r .values; book = bookOf (r .answer .book) }
-
--- there is a sound shape
-abbrev pub SoundState : State → Type 0
-SoundState st = (s : Shape) × SoundBook (st .links) (st .values) (eight (st .book)) s
 
 -- a call leaves a book of eight entries
 pub left-sound : (r : Outcome Called) {b : Book} {l : ℕ} {s : Shape} → OtherEntries (eight b) l (r .answer .book) → SoundBook (r .links) (r .values) (r .answer .book) s

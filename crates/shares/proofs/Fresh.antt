@@ -28,7 +28,7 @@ use Rattle.pools.specs.Sound.{Shape, joinedUp, everySlot, lacks, Sound, SoundBo
 use Rattle.pools.specs.Size.{SizesFit, sizesFit}
 use Rattle.shares.specs.Numbers.{firstThat, Given, decided}
 use Rattle.lists.specs.Model.{newOf}
-use Rattle.shares.specs.Setup.{SetupRefused, SetupRules, SetupKeeps, addedUp, slotsFrom, setUp, freshLink, freshValue, freshEntry, freshEntries, freshBook, setupTests, setupConditions, setupOf}
+use Rattle.shares.specs.Setup.{SetupRefused, SetupRules, SetupKeeps, addedUp, slotsFrom, freshShape, setUp, freshLink, freshValue, freshEntry, freshEntries, freshBook, setupTests, setupConditions, setupOf}
 use Rattle.pools.proofs.Size.{sizes-fit}
 use Rattle.shares.proofs.Numbers.{Matches, given, refuted, decided-number}
 use Rattle.shares.proofs.Numbers as N
@@ -170,10 +170,10 @@ fresh-wiped y p = simp (ne-eqb y 0 (λ e. omega arith))
 
 -- ---- setup leaves a sound pool
 
-module _ (size n lists : ℕ) (shares limits : List ℕ) (is : size ≡ suc n) (fits : Size size) (rules : BookRules size (eight (freshBook lists shares limits))) where
-  -- the lists are empty, and every slot from 1 on is idle, in order
-  abbrev pub freshShape : Shape
-  freshShape = record { chains = replicate lists []; idle = slotsFrom 1 n }
+module _ (size lists : ℕ) (shares limits : List ℕ) (fits : Size size) (rules : BookRules size (eight (freshBook lists shares limits))) where
+  -- how many slots there are
+  abbrev n : ℕ
+  n = size - 1
 
   abbrev used : List Entry
   used = take lists (freshEntries shares limits)
@@ -187,11 +187,12 @@ module _ (size n lists : ℕ) (shares limits : List ℕ) (is : size ≡ suc n) (
   each-new : (l : ℕ) → l < length used → entryAt used l ≡ freshEntry shares limits l
   each-new l h = let b : l < lists = omega (arith, as-many) in getD-take lists (freshEntries shares limits) l zeroEntry b ∙ tabulate-at zeroEntry mostLists (freshEntry shares limits) l (omega (arith, rules .most))
 
-  counted : (y : ℕ) → count y (everySlot freshShape) ≡ count y (slotsFrom 1 n)
+  counted : (y : ℕ) → count y (everySlot (freshShape size lists)) ≡ count y (slotsFrom 1 n)
   counted y = ap (λ (zs : List ℕ). count y (zs ++ slotsFrom 1 n)) (nothing-joined lists)
 
-  fresh-sound : Sound (tabulate size (freshLink size)) (tabulate size freshValue) used (record { head = 1 }) freshShape
+  fresh-sound : Sound (tabulate size (freshLink size)) (tabulate size freshValue) used (record { head = 1 }) (freshShape size lists)
   fresh-sound =
+      let is : size ≡ suc n = omega (arith, fits .least) in
       record {
         sameSize = tabulate-length size freshValue ∙ sym (tabulate-length size (freshLink size));
         size = rw (tabulate-length size (freshLink size)) fits;
@@ -243,21 +244,21 @@ module _ (links values : List ℕ) (lists : ℕ) (shares limits : List ℕ) wher
       go (inl w) = absurd (d (ap (λ (o : Outcome Answer). o .answer .refusal .number) (w .1)))
       go (inr w) = w .1
 
-  -- what a done setup leaves is sound: the lists are empty, and every slot from 1 on is idle, in order
-  pub setup-sound : r .answer .refusal .number ≡ 0 → SoundBook (r .links) (r .values) (eight (r .answer .book)) (record { chains = replicate lists []; idle = slotsFrom 1 (length links - 1) })
+  -- what a done setup leaves is sound, with the fresh shape
+  pub setup-sound : r .answer .refusal .number ≡ 0 → SoundBook (r .links) (r .values) (eight (r .answer .book)) (freshShape (length links) lists)
   setup-sound z = go setup-way
     where
       go : ((SizesFit (length links) (length values) × BookRules (length links) (eight (freshBook lists shares limits))) × (r ≡ setUp links values lists shares limits))
           ⊎ ((r .answer .refusal .number ≢ 0) × SetupRefused links values r)
-          → SoundBook (r .links) (r .values) (eight (r .answer .book)) (record { chains = replicate lists []; idle = slotsFrom 1 (length links - 1) })
+          → SoundBook (r .links) (r .values) (eight (r .answer .book)) (freshShape (length links) lists)
       go (inr w) = absurd (w .0 z)
       go (inl ((f, b), e)) =
           rw e
           (record {
             rules = rw (tabulate-length (length links) (freshLink (length links))) b;
             pool = subst
-                (λ (m : ℕ). Sound (tabulate (length links) (freshLink (length links))) (tabulate m freshValue) (take lists (freshEntries shares limits)) (record { head = 1 }) (record { chains = replicate lists []; idle = slotsFrom 1 (length links - 1) }))
-                (f .same) (fresh-sound (length links) (length links - 1) lists shares limits (omega (arith, f .size .least)) (f .size) b);
+                (λ (m : ℕ). Sound (tabulate (length links) (freshLink (length links))) (tabulate m freshValue) (take lists (freshEntries shares limits)) (record { head = 1 }) (freshShape (length links) lists))
+                (f .same) (fresh-sound (length links) lists shares limits (f .size) b);
           })
 
   -- a done setup has as many lists as were asked for, with the shares and limits that were given

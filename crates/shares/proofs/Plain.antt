@@ -9,8 +9,7 @@ use Rattle.shares.specs.declared.Read.{Read}
 use Rattle.lists.specs.declared.End.the-variants.{Front, Back}
 use Rattle.shares.specs.Calls.{Called, asAnswer, asPopped, readLeft, readOf, checkCall, lengthCall, pushCall, popCall, readCall, clearCall}
 use Rattle.shares.specs.Ten.{checkOf, lengthOf, pushBackOf, pushFrontOf, popBackOf, popFrontOf, readForwardOf, readBackwardOf, clearOf}
-use Rattle.shares.specs.Moves.{State, check, askLength, pushBack, pushFront, popBack, popFront, readForward, readBackward, clear, numberOf, after}
-use Rattle.shares.specs.View.{left, leftByPop}
+use Rattle.shares.specs.Moves.{State, left, leftByPop, check, askLength, pushBack, pushFront, popBack, popFront, readForward, readBackward, clear, numberOf, after}
 
 module _ (r : Outcome Called) where
   pub answer-plain : (asAnswer r .answer .refusal .number ≡ r .answer .number) × (asAnswer r .answer .book ≡ bookOf (r .answer .book))

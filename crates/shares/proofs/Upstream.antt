@@ -19,13 +19,13 @@ use Rattle.shares.specs.Setup.{setupOf}
 use Rattle.shares.specs.Calls.{Called, pushCall, popCall, clearCall, readCall}
 use Rattle.shares.specs.Ten.{checkOf, lengthOf, pushBackOf, pushFrontOf, popBackOf, popFrontOf, readForwardOf, readBackwardOf, clearOf}
 use Rattle.shares.specs.Done.{Refused, OtherEntries, OtherLists, fromEnd}
-use Rattle.shares.specs.View.{View, Holds, left, leftByPop, FreeWiped}
-use Rattle.shares.specs.Moves.{State, Move, numberOf, after}
+use Rattle.shares.specs.View.{View, Holds, SoundState, FreeWiped}
+use Rattle.shares.specs.Moves.{State, left, leftByPop, Move, numberOf, after}
 use Rattle.shares.proofs.Effects.{unique-book}
 use Rattle.shares.proofs.Fresh.{setup-sound, setup-keeps}
 use Rattle.shares.proofs.Outcomes.{length-done, push-refused, push-done, pop-refused, pop-done, clear-refused, clear-done, read-done}
 use Rattle.shares.proofs.Exactly.{push-zero, pop-five, pop-zero}
-use Rattle.shares.proofs.After.{stateOf, SoundState, left-sound, refused-same, refused-state, check-exactly, done-sound}
+use Rattle.shares.proofs.After.{stateOf, left-sound, refused-same, refused-state, check-exactly, done-sound}
 
 -- ---- the sequence of a list
 

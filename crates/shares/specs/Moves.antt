@@ -3,6 +3,9 @@ use mathlib.Core.Path.{_≡_}
 use mathlib.Core.List.{List}
 use Prim.Native.Nat.{ℕ}
 use Rattle.books.specs.declared.Book.{Book}
+use Rattle.books.specs.Outcome.{Outcome}
+use Rattle.shares.specs.declared.Answer.{Answer}
+use Rattle.shares.specs.declared.Popped.{Popped}
 use Rattle.shares.specs.Ten.{checkOf, lengthOf, pushBackOf, pushFrontOf, popBackOf, popFrontOf, readForwardOf, readBackwardOf, clearOf}
 
 -- the two slices and the newest book
@@ -10,6 +13,13 @@ pub record State : Type 0 where
   pub links : List ℕ
   pub values : List ℕ
   pub book : Book
+
+-- the state that a call leaves, and that a pop leaves
+abbrev pub left : Outcome Answer → State
+left r = record { links = r .links; values = r .values; book = r .answer .book }
+
+abbrev pub leftByPop : Outcome Popped → State
+leftByPop r = record { links = r .links; values = r .values; book = r .answer .book }
 
 -- one of the nine calls, with any arguments: a list number, a value, a buffer and a place
 pub data Move : Type 0 where
@@ -39,13 +49,13 @@ numberOf st (clear l) = clearOf (st .links) (st .values) (st .book) l .answer .r
 abbrev pub after : State → Move → State
 after st check = st
 after st (askLength l) = st
-after st (pushBack l value) = let r = pushBackOf (st .links) (st .values) (st .book) l value in record { links = r .links; values = r .values; book = r .answer .book }
-after st (pushFront l value) = let r = pushFrontOf (st .links) (st .values) (st .book) l value in record { links = r .links; values = r .values; book = r .answer .book }
-after st (popBack l) = let r = popBackOf (st .links) (st .values) (st .book) l in record { links = r .links; values = r .values; book = r .answer .book }
-after st (popFront l) = let r = popFrontOf (st .links) (st .values) (st .book) l in record { links = r .links; values = r .values; book = r .answer .book }
+after st (pushBack l value) = left (pushBackOf (st .links) (st .values) (st .book) l value)
+after st (pushFront l value) = left (pushFrontOf (st .links) (st .values) (st .book) l value)
+after st (popBack l) = leftByPop (popBackOf (st .links) (st .values) (st .book) l)
+after st (popFront l) = leftByPop (popFrontOf (st .links) (st .values) (st .book) l)
 after st (readForward l buffer at) = st
 after st (readBackward l buffer at) = st
-after st (clear l) = let r = clearOf (st .links) (st .values) (st .book) l in record { links = r .links; values = r .values; book = r .answer .book }
+after st (clear l) = left (clearOf (st .links) (st .values) (st .book) l)
 
 -- 01: "popping the front until the list is empty": pops at the front of list l, each done, until one gives 5
 pub data PoppedOut (l : ℕ) : State → State → Type 0 where

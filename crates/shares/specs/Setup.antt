@@ -2,9 +2,9 @@
 use mathlib.Core.Path.{_≡_}
 use mathlib.Core.Bool.{cond, not, _&&_}
 use mathlib.Core.List.{List, [], _∷_}
-use Prim.Native.Nat.{ℕ, zero, suc, _+_, _≤_, _<_}
+use Prim.Native.Nat.{ℕ, zero, suc, _+_, _-_, _≤_, _<_}
 use lib.Dec.{ltb, eqb}
-use lib.ListN.{length, getD, take}
+use lib.ListN.{length, getD, take, replicate}
 use Rattle.books.specs.declared.Entry.{Entry}
 use Rattle.books.specs.declared.Book.{Book}
 use Rattle.books.specs.Book.{nullSlot, wipeWord, mostLists, zeroBook, entryAt, eight}
@@ -14,6 +14,7 @@ use Rattle.books.specs.Outcome.{Outcome, outcome}
 use Rattle.lists.specs.Model.{newOf}
 use Rattle.shares.specs.declared.Answer.{Answer}
 use Rattle.pools.specs.Size.{SizesFit, sizesFit}
+use Rattle.pools.specs.Sound.{Shape}
 use Rattle.shares.specs.Numbers.{Test, test, decided, Condition, condition}
 
 -- 01: "links 1 to 2, 2 to 3, and so on, the last 0"
@@ -59,6 +60,10 @@ pub record SetupKeeps (lists : ℕ) (shares limits : List ℕ) (r : Outcome Answ
 abbrev pub slotsFrom : ℕ → ℕ → List ℕ
 slotsFrom a zero = []
 slotsFrom a (suc n) = a ∷ slotsFrom (suc a) n
+
+-- the shape that a done setup leaves: the lists are empty, and every slot from 1 on is idle, in order
+abbrev pub freshShape : ℕ → ℕ → Shape
+freshShape size lists = record { chains = replicate lists []; idle = slotsFrom 1 (size - 1) }
 
 -- an answer: the number and the book
 abbrev pub answered : ℕ → Book → Answer

@@ -21,11 +21,10 @@ use Rattle.lists.specs.Meaning.{joined, contents}
 use Rattle.pools.specs.Sound.{Shape, chainAt, put, joinedUp, lacks, SoundBook}
 use Rattle.pools.proofs.Found.{listed, entry-is, within}
 use Rattle.pools.proofs.Steps.{length-joined}
-use Rattle.shares.specs.Setup.{setupOf, slotsFrom}
+use Rattle.shares.specs.Setup.{setupOf, freshShape}
 use Rattle.shares.specs.Calls.{Called}
 use Rattle.shares.specs.Done.{OtherEntries, OtherLists}
-use Rattle.shares.specs.View.{left}
-use Rattle.shares.specs.Moves.{State, Move, check, askLength, pushBack, pushFront, popBack, popFront, readForward, readBackward, clear, numberOf, after}
+use Rattle.shares.specs.Moves.{State, left, Move, check, askLength, pushBack, pushFront, popBack, popFront, readForward, readBackward, clear, numberOf, after}
 use Rattle.shares.proofs.Effects.{unique-book}
 use Rattle.shares.proofs.Fresh.{setup-sound, setup-keeps}
 use Rattle.shares.proofs.When.{check-given, length-given, push-given, pop-given, clear-given, read-given}
@@ -189,7 +188,7 @@ module _ (lists : ℕ) (shares limits : List ℕ) where
   trace-kept (begins links values z) =
       let M = setup-keeps links values lists shares limits z in
       let S = setup-sound links values lists shares limits z in (
-        record { chains = replicate lists []; idle = slotsFrom 1 (length links - 1) },
+        freshShape (length links) lists,
         record {
           sound = S;
           asMany = M .asMany;

@@ -8,7 +8,7 @@ use Rattle.books.specs.declared.Book.{Book}
 use Rattle.books.specs.Book.{zeroEntry, wordsOf}
 use Rattle.shares.specs.Setup.{setupOf}
 use Rattle.shares.specs.Ten.{popBackOf, popFrontOf}
-use Rattle.shares.specs.Moves.{State, Move, check, askLength, pushBack, pushFront, popBack, popFront, readForward, readBackward, clear, numberOf, after}
+use Rattle.shares.specs.Moves.{State, left, Move, check, askLength, pushBack, pushFront, popBack, popFront, readForward, readBackward, clear, numberOf, after}
 
 -- a call, and what it must give: the number, the value handed out, 0 for none, and every cell and word afterwards
 pub record Turn : Type 0 where
@@ -86,14 +86,14 @@ abbrev turn : Move → ℕ → ℕ → State → Turn
 turn move number value left = record { move = move; number = number; value = value; left = left }
 
 -- setup as 01's pools have it, on slices that held other things
-abbrev set₀ : Begin
-set₀ = bySetup (9 ∷ 9 ∷ 9 ∷ 9 ∷ 9 ∷ 9 ∷ []) (7 ∷ 7 ∷ 7 ∷ 7 ∷ 7 ∷ 7 ∷ []) 2 (2 ∷ 1 ∷ replicate 6 0) (5 ∷ 3 ∷ replicate 6 0) p1
+abbrev accepted : Begin
+accepted = bySetup (9 ∷ 9 ∷ 9 ∷ 9 ∷ 9 ∷ 9 ∷ []) (7 ∷ 7 ∷ 7 ∷ 7 ∷ 7 ∷ 7 ∷ []) 2 (2 ∷ 1 ∷ replicate 6 0) (5 ∷ 3 ∷ replicate 6 0) p1
 
 abbrev pub marked : List Case
 marked =
     -- P1 to P7, one after the other
     record {
-      begin = set₀;
+      begin = accepted;
       turns =
           turn (pushBack 0 20) 0 0 p2a
           ∷ turn (pushBack 0 30) 0 0 p2b
@@ -114,7 +114,7 @@ marked =
     -- P9: "3"
     ∷ record { begin = with p9; turns = turn check 3 0 p9 ∷ [] }
     -- P10: "After P1, pop back on list 1: 5, value 0, pool and book the same"
-    ∷ record { begin = set₀; turns = turn (popBack 1) 5 0 p1 ∷ [] }
+    ∷ record { begin = accepted; turns = turn (popBack 1) 5 0 p1 ∷ [] }
     ∷ []
 
 -- ---- the test
@@ -147,10 +147,9 @@ turnsPass st (t ∷ ts) =
     eqb (numberOf st (t .move)) (t .number) && (eqb (handedOut st (t .move)) (t .value) && (sameState (after st (t .move)) (t .left) && turnsPass (after st (t .move)) ts))
 
 abbrev pub casePasses : Begin → List Turn → Bool
-casePasses (bySetup links values lists shares limits left) ts =
+casePasses (bySetup links values lists shares limits must) ts =
     let r = setupOf links values lists shares limits in
-    let st : State = record { links = r .links; values = r .values; book = r .answer .book } in
-    eqb (r .answer .refusal .number) 0 && (sameState st left && turnsPass st ts)
+    eqb (r .answer .refusal .number) 0 && (sameState (left r) must && turnsPass (left r) ts)
 casePasses (with st) ts = turnsPass st ts
 
 abbrev pub allPass : List Case → Bool

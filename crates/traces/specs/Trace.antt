@@ -1,4 +1,4 @@
--- Demand 3's premise: "Take an accepted setup, let only the other nine calls touch that pool, each with its slices and the newest book."
+-- Demand 3: a trace of calls after an accepted setup, the ledger of its pushes and pops, and what must hold at every point.
 use mathlib.Core.Path.{_≡_}
 use mathlib.Core.Logic.{_↔_, _≢_}
 use mathlib.Core.Bool.{cond}
@@ -12,7 +12,7 @@ use Rattle.chains.specs.Count.{count}
 use Rattle.lists.specs.Meaning.{contents}
 use Rattle.pools.specs.Sound.{Shape, chainAt, joinedUp, lacks, SoundBook}
 use Rattle.shares.specs.Setup.{setupOf}
-use Rattle.shares.specs.Moves.{State, Move, check, askLength, pushBack, pushFront, popBack, popFront, readForward, readBackward, clear, numberOf, after}
+use Rattle.shares.specs.Moves.{State, left, Move, check, askLength, pushBack, pushFront, popBack, popFront, readForward, readBackward, clear, numberOf, after}
 
 -- "its pushes done" and "its pops done since the setup or its last clear", of each list: how many, and the values pushed less those popped, from the front
 pub record Ledger : Type 0 where
@@ -42,40 +42,40 @@ butFirst vs = drop 1 vs
 
 -- what a done call adds to the ledger
 abbrev pub notedDone : Move → Ledger → Ledger
-notedDone check d = d
-notedDone (askLength l) d = d
-notedDone (pushBack l value) d = record { pushes = oneMore l (d .pushes); pops = d .pops; held = heldAt l (d .held l ++ value ∷ []) (d .held) }
-notedDone (pushFront l value) d = record { pushes = oneMore l (d .pushes); pops = d .pops; held = heldAt l (value ∷ d .held l) (d .held) }
-notedDone (popBack l) d = record { pushes = d .pushes; pops = oneMore l (d .pops); held = heldAt l (butLast (d .held l)) (d .held) }
-notedDone (popFront l) d = record { pushes = d .pushes; pops = oneMore l (d .pops); held = heldAt l (butFirst (d .held l)) (d .held) }
-notedDone (readForward l buffer at) d = d
-notedDone (readBackward l buffer at) d = d
-notedDone (clear l) d = record { pushes = noneAt l (d .pushes); pops = noneAt l (d .pops); held = heldAt l [] (d .held) }
+notedDone check ledger = ledger
+notedDone (askLength l) ledger = ledger
+notedDone (pushBack l value) ledger = record { pushes = oneMore l (ledger .pushes); pops = ledger .pops; held = heldAt l (ledger .held l ++ value ∷ []) (ledger .held) }
+notedDone (pushFront l value) ledger = record { pushes = oneMore l (ledger .pushes); pops = ledger .pops; held = heldAt l (value ∷ ledger .held l) (ledger .held) }
+notedDone (popBack l) ledger = record { pushes = ledger .pushes; pops = oneMore l (ledger .pops); held = heldAt l (butLast (ledger .held l)) (ledger .held) }
+notedDone (popFront l) ledger = record { pushes = ledger .pushes; pops = oneMore l (ledger .pops); held = heldAt l (butFirst (ledger .held l)) (ledger .held) }
+notedDone (readForward l buffer at) ledger = ledger
+notedDone (readBackward l buffer at) ledger = ledger
+notedDone (clear l) ledger = record { pushes = noneAt l (ledger .pushes); pops = noneAt l (ledger .pops); held = heldAt l [] (ledger .held) }
 
 -- a refused call adds nothing
 abbrev pub noted : State → Move → Ledger → Ledger
-noted st m d = cond (eqb (numberOf st m) 0) (notedDone m d) d
+noted st m ledger = cond (eqb (numberOf st m) 0) (notedDone m ledger) ledger
 
 -- what the other lists still lack of their shares: list l's own share left out
 abbrev pub othersLack : Book → Shape → ℕ → ℕ
 othersLack b s l = lacks (set (take (b .lists) (b .entries)) l zeroEntry) (s .chains)
 
 module _ (lists : ℕ) (shares limits : List ℕ) where
-  -- an accepted setup, and then any of the nine calls, one after the other, done or refused
+  -- "Take an accepted setup, let only the other nine calls touch that pool, each with its slices and the newest book": any of them, one after the other, done or refused
   pub data Trace : State → Ledger → Type 0 where
     begins : (links values : List ℕ) → setupOf links values lists shares limits .answer .refusal .number ≡ 0
-        → Trace (let r = setupOf links values lists shares limits in record { links = r .links; values = r .values; book = r .answer .book }) nothingNoted
-    goesOn : {st : State} {d : Ledger} → Trace st d → (m : Move) → Trace (after st m) (noted st m d)
+        → Trace (left (setupOf links values lists shares limits)) nothingNoted
+    goesOn : {st : State} {ledger : Ledger} → Trace st ledger → (m : Move) → Trace (after st m) (noted st m ledger)
 
   -- what demand 3 says at any point of a trace, sentence by sentence. `s` is the sound shape: the slots that each list holds, and the free ones
-  pub record Demand3 (st : State) (d : Ledger) (s : Shape) : Type 0 where
+  pub record Demand3 (st : State) (ledger : Ledger) (s : Shape) : Type 0 where
     pub sound : SoundBook (st .links) (st .values) (eight (st .book)) s
     pub asMany : st .book .lists ≡ lists
     -- the book's shares and limits, by which 7 is decided, are the setup's
     pub granted : (l : ℕ) → l < lists → (entryAt (st .book .entries) l .share ≡ getD shares l 0) × (entryAt (st .book .entries) l .limit ≡ getD limits l 0)
     -- "A list holds its pushes done less its pops done since the setup or its last clear": as many, and these values in this order
-    pub holds : (l : ℕ) → l < lists → length (chainAt s l) + d .pops l ≡ d .pushes l
-    pub sequence : (l : ℕ) → l < lists → contents (st .values) (chainAt s l) ≡ d .held l
+    pub holds : (l : ℕ) → l < lists → length (chainAt s l) + ledger .pops l ≡ ledger .pushes l
+    pub sequence : (l : ℕ) → l < lists → contents (st .values) (chainAt s l) ≡ ledger .held l
     -- "slots from 1 on that no list holds are free"
     pub free : (y : ℕ) → nullSlot < y → y < length (st .links) → count y (joinedUp (s .chains)) ≡ 0 → count y (s .idle) ≡ 1
     -- "After any calls, no list holds more than its limit"
