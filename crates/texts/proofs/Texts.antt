@@ -1,4 +1,4 @@
--- Each number has its own text, none is empty, every byte can be shown, and the longest is known: by two computed tests.
+-- Each number has its own text, none is empty, every byte can be shown, and none has more than 64 bytes: by two computed tests.
 use mathlib.Core.Path.{_≡_, sym, subst, _∙_}
 use mathlib.Core.Bool.{Bool, true, false, not, _&&_}
 use mathlib.Core.List.{List, [], _∷_, _++_}
@@ -8,7 +8,7 @@ use native.Mathlib.Decide.{decLe}
 use lib.Dec.{T, ltb, leb, eqb, ltb→lt, leb→le, eqb-refl, T-not}
 use lib.ListN.{length, getD, List·getD-append, List·getD-eq-default}
 use Rattle.digits.specs.Digits.{Written}
-use Rattle.texts.specs.Texts.{known, unknown, textOf, Printable, longest}
+use Rattle.texts.specs.Texts.{known, unknown, textOf, Printable, mostBytes}
 
 both : (a b : Bool) → T (a && b) → T a × T b
 both true b h = (tt, h)
@@ -36,25 +36,25 @@ abbrev isPrintable : ℕ → Bool
 isPrintable byte = leb 32 byte && leb byte 126
 
 abbrev isText : List ℕ → Bool
-isText text = ltb 0 (length text) && (leb (length text) longest && every isPrintable text)
+isText text = ltb 0 (length text) && (leb (length text) mostBytes && every isPrintable text)
 
 text-passes : (n : ℕ) → T (isText (textOf n))
 unfolding textOf
 text-passes n = at-every isText unknown known tt tt n
 
 module _ (n : ℕ) where
-  split : T (ltb 0 (length (textOf n))) × T (leb (length (textOf n)) longest) × T (every isPrintable (textOf n))
+  split : T (ltb 0 (length (textOf n))) × T (leb (length (textOf n)) mostBytes) × T (every isPrintable (textOf n))
   split =
-      let (a, h) = both (ltb 0 (length (textOf n))) (leb (length (textOf n)) longest && every isPrintable (textOf n)) (text-passes n) in
-      let (b, e) = both (leb (length (textOf n)) longest) (every isPrintable (textOf n)) h in
+      let (a, h) = both (ltb 0 (length (textOf n))) (leb (length (textOf n)) mostBytes && every isPrintable (textOf n)) (text-passes n) in
+      let (b, e) = both (leb (length (textOf n)) mostBytes) (every isPrintable (textOf n)) h in
       (a, b, e)
 
   -- no text is empty
   pub some-byte : 0 < length (textOf n)
   some-byte = ltb→lt 0 (length (textOf n)) (split .0)
 
-  pub no-longer : length (textOf n) ≤ longest
-  no-longer = leb→le (length (textOf n)) longest (split .1)
+  pub no-longer : length (textOf n) ≤ mostBytes
+  no-longer = leb→le (length (textOf n)) mostBytes (split .1)
 
   -- each byte can be shown
   pub all-printable : (i : ℕ) → i < length (textOf n) → Printable (getD (textOf n) i 0)
@@ -63,8 +63,8 @@ module _ (n : ℕ) where
       let (l, m) = both (leb 32 b) (leb b 126) (at-each isPrintable 0 (textOf n) (split .2) i h) in
       (leb→le 32 b l, leb→le b 126 m)
 
-  -- where there is room for the longest, every text is written
-  pub room-enough : {before : List ℕ} {at r : ℕ} {after : List ℕ} → Written (textOf n) before at r after → at + longest ≤ length before → r ≡ length (textOf n)
+  -- where there is room for `mostBytes`, every text is written
+  pub room-enough : {before : List ℕ} {at r : ℕ} {after : List ℕ} → Written (textOf n) before at r after → at + mostBytes ≤ length before → r ≡ length (textOf n)
   room-enough W h = W .fits (omega (arith, no-longer)) .0
 
 -- every number above 8 has the one text

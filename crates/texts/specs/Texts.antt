@@ -36,5 +36,5 @@ abbrev pub Printable : ℕ → Type 0
 Printable byte = (32 ≤ byte) × (byte ≤ 126)
 
 -- no text has more bytes
-abbrev pub longest : ℕ
-longest = 64
+abbrev pub mostBytes : ℕ
+mostBytes = 64
