@@ -226,7 +226,7 @@ static void lengths()
 }
 
 // Setups that keep the rules, and ones that break them by a little.
-static void setups()
+static unsigned random_setups()
 {
     Dice dice(5);
     unsigned setups = 0;
@@ -250,7 +250,13 @@ static void setups()
         ground.place = static_cast<Place>(setups % 3);
         ground.run(ask, m, setups % 4 == 0);
     }
-    // Any number of lists that ask for nothing.
+    return setups;
+}
+
+// Any number of lists that ask for nothing.
+static unsigned lists_that_ask_for_nothing()
+{
+    unsigned setups = 0;
     for (std::uint16_t lists : {0, 1, 2, 7, 8, 9, 256, 65535}) {
         model::Memory m;
         model::Ask ask;
@@ -261,7 +267,13 @@ static void setups()
         ground.run(ask, m);
         setups++;
     }
-    // As many shares as there is room for, and one more; and shares whose sum would be small if it were kept in 16 bits.
+    return setups;
+}
+
+// As many shares as there is room for, and one more; and shares whose sum would be small if it were kept in 16 bits.
+static unsigned shares_at_the_edge()
+{
+    unsigned setups = 0;
     for (std::uint16_t lists = 1; lists <= 8; lists++) {
         model::Memory m;
         model::Ask ask;
@@ -278,8 +290,17 @@ static void setups()
         for (unsigned k = 0; k < lists; k++)
             ask.shares[k] = ask.limits[k] = 4095;
         ground.run(ask, m);
+        setups += 3;
     }
-    std::printf("  %u setups\n", setups + 24);
+    return setups;
+}
+
+static void setups()
+{
+    unsigned setups = random_setups();
+    setups += lists_that_ask_for_nothing();
+    setups += shares_at_the_edge();
+    std::printf("  %u setups\n", setups);
 }
 
 static void pools()
