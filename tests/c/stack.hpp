@@ -7,7 +7,8 @@
 #include "model.hpp"
 
 // Calls fn(argument[0], .., argument[9]) with the stack pointer at top, and comes back. Four arguments lie on that stack, as
-// the calling convention of x86-64 has it; the rest are in registers. The call may use more arguments than fn has.
+// the calling convention of x86-64 has it; the rest are in registers. fn may take fewer than ten; it does not look at the
+// others.
 extern "C" std::uint16_t call_on_stack(void *top, const void *fn, const std::uint64_t *argument);
 __asm__(
     ".text\n"
