@@ -28,7 +28,7 @@ pub(crate) const DIFFERENCE: u64 = 3;
 
 pub(crate) const DAMAGED: u64 = 4;
 
-// How often a pool was damaged, and in the next cell how often it was sound all the same; the same for pools of any cells at all.
+// How often a pool was damaged, and in the next cell how often it was sound all the same; the same for pools of cells drawn at random.
 pub(crate) const DAMAGES: u64 = 5;
 
 pub(crate) const WILD: u64 = 7;

@@ -1,4 +1,4 @@
-// Small pools of any cells at all, of which few are sound.
+// Small pools of cells drawn at random, of which few are sound.
 use crate::asks;
 use crate::cells::at;
 use crate::cells::minus;
@@ -68,7 +68,7 @@ fn any_book(seed: u64, size: u64) -> Book {
     with_list(one, 5, stir(seed, 2), size)
 }
 
-// A pool of any cells at all, with a book of any words.
+// A small pool of cells drawn at random, with a book of any words.
 fn wild_pool(
     links: &mut [u16],
     values: &mut [u64],
@@ -128,7 +128,7 @@ fn wild_ones(
     }
 }
 
-// Many pools of a size, of any cells at all.
+// Many pools of a size, of cells drawn at random.
 pub(crate) fn many(
     links: &mut [u16],
     values: &mut [u64],
