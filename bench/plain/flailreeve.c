@@ -1,5 +1,5 @@
 /* The ten calls in plain C, as a firmware engineer would write them: what the archive's cost is held against, and what the
- * seeded faults of tests/c are planted in. */
+ * faults of tests/c are planted in. */
 #include "flailreeve.h"
 
 #include <stdbool.h>

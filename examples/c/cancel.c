@@ -45,7 +45,7 @@ static void show_lengths(void)
     }
 }
 
-/* The pool's memory as it is: no call helps here. */
+/* The pool's memory as it is, looked at directly, not through a call. */
 static void show_memory(void)
 {
     for (int slot = 0; slot < SLOTS; slot++) {
