@@ -21,9 +21,9 @@ use Rattle.chains.specs.Count.{count}
 use Rattle.chains.specs.Chain.{cell}
 use Rattle.chains.proofs.Count.{count-append}
 use Rattle.chains.proofs.Cover.{full-once, once-full}
-use Rattle.slots.specs.Met.{markAll}
+use Rattle.slots.specs.Met.{markAll, seen}
 use Rattle.slots.specs.Walk.{Path, unwipedFrom, idlePath}
-use Rattle.slots.proofs.Seen.{seen, seen-le, seen-none}
+use Rattle.slots.proofs.Seen.{seen-le, seen-none}
 use Rattle.slots.proofs.Walks.{idle-fresh, idle-only, idle-finds}
 use Rattle.slots.proofs.Unwiped.{unwiped-none}
 use Rattle.pools.specs.declared.check.Fault.{Fault}

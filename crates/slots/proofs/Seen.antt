@@ -12,8 +12,7 @@ use lib.ListN.{length, getD, set, length-set, replicate, getD-replicate, List·g
 use lib.Seq.{getD-set-same, getD-set-other}
 use Rattle.books.proofs.Tests.{not-both}
 use Rattle.chains.specs.Count.{hit}
-use Rattle.slots.specs.Met.{isMetOf, markOf, unmet}
-pub use Rattle.slots.specs.Met.{seen}
+use Rattle.slots.specs.Met.{isMetOf, markOf, unmet, seen}
 
 pub seen-le : (met : List ℕ) (y : ℕ) → seen met y ≤ 1
 seen-le met y = go (isMetOf met y)
