@@ -100,6 +100,33 @@ static void one_pool(Dice &dice, std::size_t n)
     seen[model::setup].in_memory += in_memory();
 }
 
+// A PIN is entered and Cancel is pressed: a push and then a clear from the same caller, the stack as the push left it.
+static struct {
+    unsigned times, in_memory, in_stack;
+} cancelled;
+
+static void cancel(Dice &dice, std::size_t n)
+{
+    model::Queues q = model::random_queues(dice, n);
+    model::Queues with = q;
+    model::Ask ask;
+    ask.call = dice.from(0, 1) == 0 ? model::push_back : model::push_front;
+    ask.list = dice.half(0, q.list.size() - 1);
+    ask.value = block();
+    if (model::push(ask, with) != 0)
+        return;
+    model::write_down(q, pool.m);
+    std::uint16_t pushed = pool.call(ask, 0x5a);
+    ask.call = model::clear;
+    ask.value = 0;
+    std::uint16_t cleared = pool.call(ask);
+    if (pushed != 0 || cleared != 0)
+        fail("a push gave %u, and a clear after it %u", pushed, cleared);
+    cancelled.times++;
+    cancelled.in_memory += in_memory();
+    cancelled.in_stack += pool.stack.count(block());
+}
+
 // Refusals, for the depth of the stack.
 static void refused(Dice &dice, std::size_t n)
 {
@@ -127,6 +154,11 @@ int main()
     for (std::size_t n : {64, 256, 1024, 4095, 4096})
         for (unsigned i = 0; i < 12; i++)
             one_pool(dice, n);
+    for (unsigned i = 0; i < 400; i++)
+        cancel(dice, dice.from(2, 12));
+    for (std::size_t n : {64, 256, 257, 4096})
+        for (unsigned i = 0; i < 12; i++)
+            cancel(dice, n);
     std::printf("%-14s %6s %18s %18s %12s %12s\n", "the block", "times", "in lent memory", "in the dead stack", "stack, bytes",
                 "refused");
     for (int call = 0; call < model::calls; call++) {
@@ -138,6 +170,10 @@ int main()
             std::printf("%18s ", "-");
         std::printf("%18u %12zu %12zu\n", s.most_in_stack, s.depth, s.refused_depth);
     }
+    std::printf("a push and then a clear from one caller, %u times: in lent memory %u, in the dead stack %u\n", cancelled.times,
+                cancelled.in_memory, cancelled.in_stack);
+    if (cancelled.times == 0 || cancelled.in_memory != 0 || cancelled.in_stack != 0)
+        fail("a push and then a clear leave the block");
     for (model::Call call : {model::setup, model::pop_back, model::pop_front, model::clear})
         if (seen[call].in_memory != 0)
             fail("after %s the block is still in lent memory", model::names[call]);

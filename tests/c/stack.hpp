@@ -8,7 +8,8 @@
 
 // Calls fn(argument[0], .., argument[9]) with the stack pointer at top, and comes back. Four arguments lie on that stack, as
 // the calling convention of x86-64 has it; the rest are in registers. fn may take fewer than ten; it does not look at the
-// others.
+// others. The registers that fn has to keep are cleared before, since it saves them on its stack, and a caller may have had the
+// block in one.
 extern "C" std::uint16_t call_on_stack(void *top, const void *fn, const std::uint64_t *argument);
 __asm__(
     ".text\n"
@@ -16,7 +17,17 @@ __asm__(
     ".type call_on_stack, @function\n"
     "call_on_stack:\n"
     "    push %rbp\n"
+    "    push %rbx\n"
+    "    push %r12\n"
+    "    push %r13\n"
+    "    push %r14\n"
+    "    push %r15\n"
     "    mov %rsp, %rbp\n"
+    "    xor %ebx, %ebx\n"
+    "    xor %r12d, %r12d\n"
+    "    xor %r13d, %r13d\n"
+    "    xor %r14d, %r14d\n"
+    "    xor %r15d, %r15d\n"
     "    mov %rdi, %rsp\n"
     "    mov %rsi, %rax\n"
     "    mov %rdx, %r10\n"
@@ -32,6 +43,11 @@ __asm__(
     "    mov (%r10), %rdi\n"
     "    call *%rax\n"
     "    mov %rbp, %rsp\n"
+    "    pop %r15\n"
+    "    pop %r14\n"
+    "    pop %r13\n"
+    "    pop %r12\n"
+    "    pop %rbx\n"
     "    pop %rbp\n"
     "    ret\n"
     ".size call_on_stack, . - call_on_stack\n");
@@ -86,6 +102,13 @@ struct Painted {
 
     std::uint16_t call(const model::Ask &ask, unsigned char paint)
     {
+        stack.paint(paint);
+        return call(ask);
+    }
+
+    // The same on the stack as the call before left it.
+    std::uint16_t call(const model::Ask &ask)
+    {
         const void *const functions[model::calls] = {
             pointer(flailreeve_setup),        pointer(flailreeve_check),         pointer(flailreeve_length),
             pointer(flailreeve_push_back),    pointer(flailreeve_push_front),    pointer(flailreeve_pop_back),
@@ -121,7 +144,6 @@ struct Painted {
         default:
             break;
         }
-        stack.paint(paint);
         return stack.call(functions[ask.call], a);
     }
 
