@@ -5,3 +5,4 @@ pub mod Seen
 pub mod Going
 pub mod Walks
 pub mod Unwiped
+pub mod Pools
