@@ -2,7 +2,8 @@
  *
  * For C11 and C++17. The functions stand in an archive, libabi.a, for x86-64 Linux; tools/archive builds it and prints its
  * path. It is what the proved crate `abi` is compiled to, uses no heap, keeps nothing between calls, and asks of the C library
- * for memset, memcpy, memmove, memcmp and bcmp at most. docs/SPEED.md has the cost, the code and the stack of each call.
+ * for memset, memcpy, memmove, memcmp and bcmp at most. docs/SPEED.md has what a push and pop, check, length and clear
+ * cost, and the code and the stack of each call.
  *
  * THE POOL is two buffers of equal length N: a 16-bit link and a 64-bit value for each slot. N runs from 2 to 4,096. Slot 0
  * is the null and never holds an element; slots 1 to N-1 do. A slot that no list holds is free, and a free slot's value
@@ -19,8 +20,8 @@
  * WHAT THE CALLER OWES. A call believes these, and no proof can see them; if one does not hold, the behaviour is undefined.
  * - No pointer is null, not even with a length of 0, and each is aligned: to 2 bytes for links, shares, limits, the book,
  *   `length` and `count`; to 8 bytes for values, `value` and `out`.
- * - Lengths are true. They count cells, not bytes, and that many cells can be read, and written where the pointer is not to
- *   const memory.
+ * - Lengths are true. They count cells, not bytes; shares and limits have eight words each, whatever `lists` is. All of these
+ *   can be read, and written where the parameter is not a pointer to const.
  * - No two buffers of one call overlap; `length`, `value`, `count` and the book are buffers too.
  * - No other thread and no interrupt handler touches these buffers while the call runs. Calls on different pools may run
  *   at the same time: nothing is shared.
@@ -29,9 +30,10 @@
  * before it acts, in time in proportion to N, and refuses by 3 one that is not sound. Damage that leaves it sound, as another
  * value in a list's slot, is not seen. List numbers, places and values may be anything too. Every call ends.
  *
- * WHAT IS LEFT TO THE FIRMWARE TO WIPE. A value that a pop hands out; the copies that a read writes; and the dead stack below
- * the caller, where a push or a pop may leave a copy of the value (docs/SPEED.md has the count). Setup, check, length, the
- * reads and clear leave none there, but one that an earlier push or pop left may stay. This is measured, not proved. */
+ * WHAT IS LEFT TO THE FIRMWARE TO WIPE. The value that it hands to a push, in its own variables and, it being the seventh
+ * argument, on its own stack; a value that a pop hands out; the copies that a read writes; registers; and the dead stack
+ * below the caller, where a push or a pop may leave a copy of the value (docs/SPEED.md has the count). Setup, check, length,
+ * the reads and clear leave none there, but one that an earlier push or pop left may stay. This is measured, not proved. */
 #ifndef FLAILREEVE_H
 #define FLAILREEVE_H
 
@@ -102,8 +104,8 @@ FLAILREEVE_HOLDS(_Alignof(struct flailreeve_book) == 2, "the book is aligned as 
 #endif
 #undef FLAILREEVE_HOLDS
 
-/* The compiler warns where an answer is not looked at, or where it sees a null pointer: a clear whose refusal nobody
- * reads has left the block where it was. */
+/* GCC and Clang warn where an answer is thrown away, since a clear whose refusal nobody reads has left the block where it
+ * was, and where they see a null pointer. */
 #if defined(__GNUC__)
 #define FLAILREEVE_CALL __attribute__((warn_unused_result, nonnull))
 #else
@@ -148,7 +150,8 @@ FLAILREEVE_CALL uint16_t flailreeve_length(const uint16_t *links, size_t links_l
  * Gives 1, 3: as check.
  * Gives 4: there is no list of that number.
  * Gives 6: the list's length equals its limit.
- * Gives 7: the list is under its limit but has its share, and the free slots are kept for other lists.
+ * Gives 7: the list is under its limit but has its share, and no slot is free, or those that are free are kept for other
+ * lists.
  * Refused, it changes nothing. */
 FLAILREEVE_CALL uint16_t flailreeve_push_back(uint16_t *links, size_t links_len, uint64_t *values, size_t values_len,
                                               struct flailreeve_book *book, uint16_t list, uint64_t value);

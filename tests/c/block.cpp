@@ -85,7 +85,7 @@ static void one_pool(Dice &dice, std::size_t n)
         if (call != model::clear && pool.value != block())
             fail("%s handed out something else", model::names[call]);
     }
-    // The other calls, for what they leave in the dead stack. In all of them the block is in the pool.
+    // The other calls, for what they leave in the dead stack. In the looks the block is in the pool; a push has it as its argument.
     for (model::Call call : {model::check, model::length, model::read_forward, model::read_backward}) {
         model::write_down(with, pool.m);
         pool.m.out.assign(n, 0);
@@ -152,8 +152,10 @@ int main()
         refused(dice, dice.from(2, 12));
     }
     for (std::size_t n : {64, 256, 1024, 4095, 4096})
-        for (unsigned i = 0; i < 12; i++)
+        for (unsigned i = 0; i < 12; i++) {
             one_pool(dice, n);
+            refused(dice, n);
+        }
     for (unsigned i = 0; i < 400; i++)
         cancel(dice, dice.from(2, 12));
     for (std::size_t n : {64, 256, 257, 4096})
@@ -177,8 +179,12 @@ int main()
     for (model::Call call : {model::setup, model::pop_back, model::pop_front, model::clear})
         if (seen[call].in_memory != 0)
             fail("after %s the block is still in lent memory", model::names[call]);
-    if (seen[model::clear].in_stack != 0)
-        fail("clear leaves the block in the dead stack");
+    for (model::Call call : {model::setup, model::check, model::length, model::read_forward, model::read_backward, model::clear})
+        if (seen[call].in_stack != 0)
+            fail("%s leaves the block in the dead stack", model::names[call]);
+    for (const auto &s : seen)
+        if (std::max(s.depth, s.refused_depth) > 5324)  // 5.2 KiB, as the header says
+            fail("a call uses %zu bytes of stack", std::max(s.depth, s.refused_depth));
     std::size_t record = 4096, room = 448;
     if (seen[model::check].depth >= record + room)
         fail("the check's stack, less its record of slots met, is %zu bytes, not under %zu", seen[model::check].depth - record, room);

@@ -1,4 +1,4 @@
--- Small pools that break one clause each of 01's "sound", and pools at the edge that are sound all the same, with the number that a look at each must give.
+-- Small pools that break one clause each of 01's "sound" (the sum of the shares can only be broken together with the free slots that cover the lacks), pools at the edge that are sound all the same, and two that are no pools, each with the number that a look must give.
 use mathlib.Core.Bool.{Bool, true, _&&_}
 use mathlib.Core.List.{List, [], _∷_, _++_}
 use Prim.Native.Nat.{ℕ}
@@ -44,13 +44,16 @@ edges =
     ∷ edge 3 (0 ∷ 0 ∷ []) (0 ∷ 0 ∷ []) 1 (entry 1 1 0 1 ∷ none 7) 1
     -- "both 0 when it is empty"; "the first and last slot of its sequence"
     ∷ edge 3 (0 ∷ 0 ∷ []) (0 ∷ 0 ∷ []) 1 (entry 0 1 0 1 ∷ none 7) 1
+    ∷ edge 3 (0 ∷ 0 ∷ []) (0 ∷ 0 ∷ []) 1 (entry 1 0 0 1 ∷ none 7) 1
     ∷ edge 3 (0 ∷ 0 ∷ []) (0 ∷ 0 ∷ []) 1 (entry 0 1 0 1 ∷ none 7) 0
     ∷ edge 3 (0 ∷ 0 ∷ []) (0 ∷ 0 ∷ []) 1 (entry 1 0 0 1 ∷ none 7) 0
     -- "a live slot's link"; "the free head is the first free slot or 0"; "a free slot's link .. 0 at the last"
     ∷ edge 3 (0 ∷ 1 ∷ []) (0 ∷ 5 ∷ []) 1 (entry 1 1 0 1 ∷ none 7) 0
+    ∷ edge 3 (0 ∷ 2 ∷ 0 ∷ []) (0 ∷ 8 ∷ 9 ∷ []) 1 (entry 1 2 0 2 ∷ none 7) 0
     ∷ edge 3 (0 ∷ 0 ∷ []) (0 ∷ 0 ∷ []) 1 (entry 0 0 0 1 ∷ none 7) 2
     ∷ edge 3 (0 ∷ 1 ∷ []) (0 ∷ 0 ∷ []) 1 (entry 0 0 0 1 ∷ none 7) 1
     ∷ edge 3 (0 ∷ 2 ∷ []) (0 ∷ 0 ∷ []) 1 (entry 0 0 0 1 ∷ none 7) 1
+    ∷ edge 3 (0 ∷ 0 ∷ 0 ∷ []) (0 ∷ 0 ∷ 0 ∷ []) 1 (entry 0 0 0 2 ∷ none 7) 1
     -- "every free slot's value is 0; slot 0 has link 0 and value 0"
     ∷ edge 3 (0 ∷ 0 ∷ []) (0 ∷ 1 ∷ []) 1 (entry 0 0 0 1 ∷ none 7) 1
     ∷ edge 3 (1 ∷ 0 ∷ []) (0 ∷ 0 ∷ []) 1 (entry 0 0 0 1 ∷ none 7) 1
@@ -59,17 +62,19 @@ edges =
     ∷ edge 3 (0 ∷ 0 ∷ []) (0 ∷ 0 ∷ []) 0 (none 8) 1
     ∷ edge 3 (0 ∷ 0 ∷ []) (0 ∷ 0 ∷ []) 9 (none 8) 1
     ∷ edge 3 (0 ∷ 0 ∷ []) (0 ∷ 0 ∷ []) 1 (entry 0 0 1 0 ∷ none 7) 1
+    ∷ edge 3 (0 ∷ 0 ∷ []) (0 ∷ 0 ∷ []) 2 (entry 0 0 0 1 ∷ entry 0 0 1 0 ∷ none 6) 1
     ∷ edge 3 (0 ∷ 0 ∷ []) (0 ∷ 0 ∷ []) 1 (entry 0 0 0 2 ∷ none 7) 1
     ∷ edge 3 (0 ∷ 2 ∷ 0 ∷ []) (0 ∷ 0 ∷ 0 ∷ []) 2 (entry 0 0 2 2 ∷ entry 0 0 1 2 ∷ none 6) 1
-    -- "entries from L on are all 0": a head, a tail, a share with its limit, a limit
+    -- "entries from L on are all 0": a head, a tail, a share, a limit
     ∷ edge 3 (0 ∷ 0 ∷ []) (0 ∷ 0 ∷ []) 1 (entry 0 0 0 1 ∷ entry 1 0 0 0 ∷ none 6) 1
     ∷ edge 3 (0 ∷ 0 ∷ []) (0 ∷ 0 ∷ []) 1 (entry 0 0 0 1 ∷ entry 0 1 0 0 ∷ none 6) 1
-    ∷ edge 3 (0 ∷ 0 ∷ []) (0 ∷ 0 ∷ []) 1 (entry 0 0 0 1 ∷ entry 0 0 1 1 ∷ none 6) 1
+    ∷ edge 3 (0 ∷ 0 ∷ []) (0 ∷ 0 ∷ []) 1 (entry 0 0 0 1 ∷ entry 0 0 1 0 ∷ none 6) 1
     ∷ edge 3 (0 ∷ 0 ∷ []) (0 ∷ 0 ∷ []) 1 (entry 0 0 0 1 ∷ none 6 ++ entry 0 0 0 1 ∷ []) 1
     -- "no list is longer than its limit, and the free slots are at least the sum of what each list lacks of its share"
     ∷ edge 3 (0 ∷ 0 ∷ []) (0 ∷ 5 ∷ []) 1 (entry 1 1 0 0 ∷ none 7) 0
+    ∷ edge 3 (0 ∷ 0 ∷ 0 ∷ []) (0 ∷ 8 ∷ 9 ∷ []) 2 (entry 1 1 0 1 ∷ entry 2 2 0 0 ∷ none 6) 0
     ∷ edge 3 (0 ∷ 2 ∷ 1 ∷ []) (0 ∷ 8 ∷ 8 ∷ []) 2 (entry 1 2 0 2 ∷ entry 0 0 1 1 ∷ none 6) 0
-    -- no pool at all: N is 1, and the lengths differ
+    -- no pool at all: N is 1; the lengths differ
     ∷ edge 1 (0 ∷ []) (0 ∷ []) 1 (none 8) 0
     ∷ edge 1 (0 ∷ 0 ∷ []) (0 ∷ 0 ∷ 0 ∷ []) 1 (none 8) 1
     ∷ []

@@ -10,6 +10,7 @@ abbrev four : ℕ → ℕ → ℕ → ℕ → List ℕ
 four a b c d = a ∷ b ∷ c ∷ d ∷ []
 
 -- 1, 3, 2 and the end; then 2 leads back to 1; then 3 was met before; then 3 leads to 4, which the four slots have not
+-- (the record has a fifth place there, so that it is not the record that stops the walk)
 pub walks-tried : (idlePath (four 0 3 0 2) (four 0 0 0 0) (record { head = 1 }) ≡ record { ok = true; slots = 1 ∷ 3 ∷ 2 ∷ [] })
     × (idlePath (four 0 3 1 2) (four 0 0 0 0) (record { head = 1 }) ≡ record { ok = false; slots = 1 ∷ 3 ∷ 2 ∷ [] })
     × (idlePath (four 0 3 0 2) (four 0 0 0 1) (record { head = 1 }) ≡ record { ok = false; slots = 1 ∷ [] })
