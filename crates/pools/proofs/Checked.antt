@@ -3,12 +3,12 @@ use mathlib.Core.Path.{_≡_, refl, sym, ap, _∙_}
 use mathlib.Core.Logic.{_↔_, _≢_}
 use mathlib.Core.Bool.{Bool, true, false, cond}
 use mathlib.Core.List.{List, _++_}
-use Prim.Native.Nat.{ℕ, suc, _+_, _-_, _≤_, _<_}
+use Prim.Native.Nat.{ℕ, zero, suc, _+_, _-_, _≤_, _<_}
 use native.Mathlib.Nat.{not-suc-le-zero}
 use native.Mathlib.Decide.{decLt}
 use native.Mathlib.Omega.{arith}
 use lib.Dec.{leb, eqb}
-use lib.ListN.{length, take, length-append}
+use lib.ListN.{length, take, length-append, length-replicate}
 use borrow.Author.Tests.{eqb-true, eqb-false, eq-eqb, leb-true, le-leb}
 use Rattle.books.specs.declared.Free.{Free}
 use Rattle.books.specs.declared.Entry.{Entry}
@@ -22,9 +22,9 @@ use Rattle.chains.specs.Chain.{cell}
 use Rattle.chains.proofs.Count.{count-append}
 use Rattle.chains.proofs.Cover.{full-once, once-full}
 use Rattle.slots.specs.Met.{markAll, seen}
-use Rattle.slots.specs.Walk.{Path, unwipedFrom, idlePath}
+use Rattle.slots.specs.Walk.{Path, walkable, unwipedFrom, idlePath}
 use Rattle.slots.proofs.Seen.{seen-le, seen-none}
-use Rattle.slots.proofs.Walks.{idle-fresh, idle-only, idle-finds}
+use Rattle.slots.proofs.Walks.{idle-fresh, idle-only, idle-finds, walkable-where}
 use Rattle.slots.proofs.Unwiped.{unwiped-none}
 use Rattle.pools.specs.declared.check.Fault.{Fault}
 use Rattle.pools.specs.declared.check.Gathered.{Gathered}
@@ -32,7 +32,7 @@ use Rattle.pools.specs.Sound.{Shape, chainAt, joinedUp, everySlot, lacks
 use Rattle.pools.specs.Size.{SizesFit}
 use Rattle.pools.specs.Check.{noFault, nothingMet, gatheredNone, Round, gatherAll, idleFault, spareFault, nullSlotZero, poolFound, checkFound}
 use Rattle.pools.proofs.Shape.{at-most, no-null, part}
-use Rattle.pools.proofs.Gather.{Walked, Sums, gather-told, gather-tells}
+use Rattle.pools.proofs.Gather.{Walked, Sums, gather-told, gather-tells, gather-walkable}
 
 -- a choice between a fault and what comes after finds none exactly where its test is true and nothing after is found
 past : (b : Bool) (x y : Fault) → y .rule ≢ 0 → cond b x y .rule ≡ 0 → (b ≡ true) × (x .rule ≡ 0)
@@ -80,7 +80,7 @@ module _ (wanted : ℕ) (links values : List ℕ) (es : List Entry) (free : Free
   r = gatherAll wanted lists links 0 es none (gatheredNone lists)
 
   abbrev path : Path
-  path = idlePath links (r .met) free
+  path = idlePath links values (r .met) free
 
   -- what the idle stages ask of the idle chain's walk
   abbrev Asked : Type 0
@@ -91,6 +91,11 @@ module _ (wanted : ℕ) (links values : List ℕ) (es : List Entry) (free : Free
   unfolding nothingMet
   unseen y h = seen-none (length links) y h
 
+  -- a walk may go over it
+  fresh-record : walkable links none ≡ true
+  unfolding nothingMet
+  fresh-record = walkable-where links none (sym (length-replicate (length links) zero)) (unseen nullSlot (omega (arith, size .least)))
+
   -- ---- no fault: the pool is sound
 
   shape-sound : (cs : List (List ℕ)) → nullSlotZero links values ≡ true → Walked links none es cs → Sums wanted lists 0 none es cs (gatheredNone lists) r → Asked
@@ -98,8 +103,8 @@ module _ (wanted : ℕ) (links values : List ℕ) (es : List Entry) (free : Free
   unfolding nullSlotZero
   shape-sound cs z W S I =
       let (z₁, z₂) = and-both (eqb (cell links nullSlot) 0) (eqb (cell values nullSlot) 0) z in
-      let F = idle-fresh links (r .met) free in
-      let (hd, ch) = idle-only links (r .met) free (I .came) in
+      let F = idle-fresh links values (r .met) free in
+      let (hd, ch) = idle-only links values (r .met) free (I .came) in
       record {
         sameSize = same;
         size = size;
@@ -122,20 +127,20 @@ module _ (wanted : ℕ) (links values : List ℕ) (es : List Entry) (free : Free
       slots = joinedUp cs ++ path .slots
 
       counted : (y : ℕ) → seen none y + count y slots ≤ 1
-      counted y = omega (arith, idle-fresh links (r .met) free .once y, S .marks y, count-append y (joinedUp cs) (path .slots))
+      counted y = omega (arith, idle-fresh links values (r .met) free .once y, S .marks y, count-append y (joinedUp cs) (path .slots))
 
       inside : (y : ℕ) → 0 < count y slots → (0 < y) × (y ≤ length links - 1)
       inside y p = go (decLt 0 (count y (joinedUp cs))) (count-append y (joinedUp cs) (path .slots))
         where
           go : Dec (0 < count y (joinedUp cs)) → count y slots ≡ count y (joinedUp cs) + count y (path .slots) → (0 < y) × (y ≤ length links - 1)
           go (yes h) e = let o = W .inside y h in (o .0, omega arith)
-          go (no h) e = let o = idle-fresh links (r .met) free .inside y (omega arith) in (o .0, omega arith)
+          go (no h) e = let o = idle-fresh links values (r .met) free .inside y (omega arith) in (o .0, omega arith)
 
       no-zero : count 0 (path .slots) ≡ 0
       no-zero = go (decLt 0 (count 0 (path .slots)))
         where
           go : Dec (0 < count 0 (path .slots)) → count 0 (path .slots) ≡ 0
-          go (yes h) = absurd (not-suc-le-zero (idle-fresh links (r .met) free .inside 0 h .0))
+          go (yes h) = absurd (not-suc-le-zero (idle-fresh links values (r .met) free .inside 0 h .0))
           go (no h) = omega arith
 
   -- ---- a sound pool: no fault
@@ -157,11 +162,11 @@ module _ (wanted : ℕ) (links values : List ℕ) (es : List Entry) (free : Free
         go y (no h) e = omega (arith, seen-le none y)
 
     sound-sums : Sums wanted lists 0 none es (s .chains) (gatheredNone lists) r
-    sound-sums = gather-tells wanted lists links 0 es (s .chains) none (gatheredNone lists) (omega arith) sound-walked
+    sound-sums = gather-tells wanted lists links 0 es (s .chains) none (gatheredNone lists) (omega arith) fresh-record sound-walked
 
     sound-path : path ≡ record { ok = true; slots = s .idle }
     sound-path =
-        idle-finds links (r .met) free (s .idle) (S .freeHead) (S .idle)
+        idle-finds links values (r .met) free (sym same) (gather-walkable wanted lists links 0 es none (gatheredNone lists) fresh-record) (s .idle) (S .freeHead) (S .idle)
         (λ y p. S .only y (omega (arith, count-append y (joinedUp (s .chains)) (s .idle))))
         (λ y. go y (decLt 0 (count y (s .idle))) (count-append y (joinedUp (s .chains)) (s .idle)) (sound-sums .marks y))
       where

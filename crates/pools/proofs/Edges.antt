@@ -6,13 +6,13 @@ use lib.ListN.{replicate}
 use Rattle.books.specs.Book.{zeroEntry, mostLists, AnyBook}
 use Rattle.books.specs.Test.{isFair, isZero, gather, allZero, keepsRules}
 use Rattle.slots.specs.Met.{isMetOf, markOf, unmet}
-use Rattle.slots.specs.Walk.{walkOn}
+use Rattle.slots.specs.Walk.{walkOn, walkable, idlePath}
 use Rattle.pools.specs.Size.{sizesFit}
 use Rattle.pools.specs.Check.{nothingMet, gatherAll, spareFault, idleFault, nullSlotZero, poolFound, checkFound, lookOf}
 use Rattle.pools.specs.Edges.{edges, edgesPass}
 
 pub every-clause-asked : edgesPass edges ≡ true
-unfolding isFair isZero gather allZero keepsRules nothingMet gatherAll spareFault idleFault nullSlotZero poolFound checkFound sizesFit lookOf isMetOf markOf unmet walkOn
+unfolding isFair isZero gather allZero keepsRules nothingMet gatherAll spareFault idleFault nullSlotZero poolFound checkFound sizesFit lookOf isMetOf markOf unmet walkOn walkable idlePath
 every-clause-asked = refl
 
 -- list 0 has slots 2 and 1, list 1 has none: a look for the one finds two slots, for the other none
@@ -20,5 +20,5 @@ abbrev twoLists : AnyBook
 twoLists = record { places = mostLists; lists = 2; entries = record { head = 2; tail = 1; share = 0; limit = 2 } ∷ replicate 7 zeroEntry; free = record { head = 0 } }
 
 pub length-tried : (lookOf 0 (0 ∷ 2 ∷ 1 ∷ []) (0 ∷ 8 ∷ 9 ∷ []) twoLists .found .length ≡ 2) × (lookOf 1 (0 ∷ 2 ∷ 1 ∷ []) (0 ∷ 8 ∷ 9 ∷ []) twoLists .found .length ≡ 0)
-unfolding isFair isZero gather allZero keepsRules nothingMet gatherAll spareFault idleFault nullSlotZero poolFound checkFound sizesFit lookOf isMetOf markOf unmet walkOn
+unfolding isFair isZero gather allZero keepsRules nothingMet gatherAll spareFault idleFault nullSlotZero poolFound checkFound sizesFit lookOf isMetOf markOf unmet walkOn walkable idlePath
 length-tried = (refl, refl)

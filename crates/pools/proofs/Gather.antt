@@ -14,13 +14,13 @@ use lib.Seq.{drop-cons}
 use borrow.Author.Tests.{eqb-true, eq-eqb, ne-eqb, lt-ltb, le-ltb}
 use Rattle.books.specs.declared.Entry.{Entry}
 use Rattle.books.specs.Book.{nullSlot, zeroEntry, entryAt}
-use Rattle.books.proofs.Tests.{and-both}
+use Rattle.books.proofs.Tests.{and-both, cond-ind}
 use Rattle.chains.specs.Count.{count}
 use Rattle.chains.specs.Chain.{firstOr, lastOr, LiveChain}
 use Rattle.chains.proofs.Count.{count-append}
 use Rattle.slots.specs.Met.{seen, markAll, unmet}
-use Rattle.slots.specs.Walk.{Path}
-use Rattle.slots.proofs.Walks.{pass-unmet}
+use Rattle.slots.specs.Walk.{Path, walkable, Passes}
+use Rattle.slots.proofs.Walks.{pass-unmet, walkable-passed}
 use Rattle.walks.specs.declared.walk.LiveWalk.{LiveWalk}
 use Rattle.walks.specs.Walk.{endsWell, livePath, LiveWalked}
 use Rattle.walks.proofs.Walks.{live-fresh, live-only, live-finds}
@@ -190,22 +190,34 @@ module _ (wanted lists : ℕ) (links : List ℕ) where
               )
 
   -- where there are chains no fault is found
-  pub gather-tells : (list : ℕ) (es : List Entry) (cs : List (List ℕ)) (met : List ℕ) (g : Gathered) → list + length es ≤ lists → Walked links met es cs
+  pub gather-tells : (list : ℕ) (es : List Entry) (cs : List (List ℕ)) (met : List ℕ) (g : Gathered) → list + length es ≤ lists → walkable links met ≡ true → Walked links met es cs
       → Sums wanted lists list met es cs g (gatherAll wanted lists links list es met g)
-  gather-tells list [] [] met g b W = no-lists wanted lists list links met g
-  gather-tells list [] (xs ∷ cs) met g b W = absurd (omega (arith, W .lists))
-  gather-tells list (e ∷ es) [] met g b W = absurd (omega (arith, W .lists))
-  gather-tells list (e ∷ es) (xs ∷ cs) met g b W =
+  gather-tells list [] [] met g b f W = no-lists wanted lists list links met g
+  gather-tells list [] (xs ∷ cs) met g b f W = absurd (omega (arith, W .lists))
+  gather-tells list (e ∷ es) [] met g b f W = absurd (omega (arith, W .lists))
+  gather-tells list (e ∷ es) (xs ∷ cs) met g b f W =
       let path : livePath links met e ≡ record { ok = true; slots = xs } =
-      live-finds links met e xs (W .head zero (zero-lt-suc (length es))) (W .live zero (zero-lt-suc (length es)))
+      live-finds links met e f xs (W .head zero (zero-lt-suc (length es))) (W .live zero (zero-lt-suc (length es)))
       (λ y p. W .inside y (omega (arith, count-append y xs (joinedUp cs)))) (λ y. omega (arith, W .once y, count-append y xs (joinedUp cs))) in
       let marked : (y : ℕ) → seen (markAll met xs) y ≡ seen met y + count y xs = λ y.
       ap (λ (z : Path). seen (markAll met (z .slots)) y) (sym path) ∙ live-fresh links met e .marks y ∙ ap (λ (z : Path). seen met y + count y (z .slots)) path in
       let q : endsWell (livePath links met e) e ≡ true = rw path (eq-eqb (lastOr 0 xs) (e .tail) (sym (W .tail zero (zero-lt-suc (length es))))) in
-      let S = gather-tells (suc list) es cs (markAll met xs) (gatherOne wanted lists list e (length xs) g) (omega arith) (walked-less links met (markAll met xs) e es xs cs marked W) in
+      let again : walkable links (markAll met xs) ≡ true = walkable-passed links met xs (subst (λ (z : Path). Passes links met (z .slots)) path (live-fresh links met e)) f in
+      let S = gather-tells (suc list) es cs (markAll met xs) (gatherOne wanted lists list e (length xs) g) (omega arith) again (walked-less links met (markAll met xs) e es xs cs marked W) in
       let goes = gather-goes list e es met g q ∙ ap (λ (z : Path). gatherAll wanted lists links (suc list) es (markAll met (z .slots)) (gatherOne wanted lists list e (length (z .slots)) g)) path in
       subst (λ (z : Round). Sums wanted lists list met (e ∷ es) (xs ∷ cs) g z) (sym goes)
       (sums-more wanted lists list met e es xs cs g _ (markAll met xs) (omega arith) marked S)
+
+  -- the walks leave a record that may be walked over
+  pub gather-walkable : (list : ℕ) (es : List Entry) (met : List ℕ) (g : Gathered) → walkable links met ≡ true → walkable links (gatherAll wanted lists links list es met g .met) ≡ true
+  unfolding gatherAll
+  gather-walkable list [] met g f = f
+  gather-walkable list (e ∷ es) met g f =
+      let path = livePath links met e in
+      let again = walkable-passed links met (path .slots) (live-fresh links met e) f in
+      cond-ind (λ (r : Round). walkable links (r .met) ≡ true) (endsWell path e)
+      (λ h. gather-walkable (suc list) es (markAll met (path .slots)) (gatherOne wanted lists list e (length (path .slots)) g) again)
+      (λ h. again)
 
 -- ---- one list at a time, as a loop takes them
 

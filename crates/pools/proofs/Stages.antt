@@ -63,8 +63,8 @@ module _ (wanted lists : ℕ) (links : List ℕ) where
       (λ h. omega arith)
 
 -- the idle chain's slots are among those that were left
-pub idle-at-most : (links met : List ℕ) (free : Free) → length (idlePath links met free .slots) ≤ unmet met
-idle-at-most links met free = omega (arith, pass-unmet met (idlePath links met free .slots) (idle-fresh links met free .once))
+pub idle-at-most : (links values met : List ℕ) (free : Free) → length (idlePath links values met free .slots) ≤ unmet met
+idle-at-most links values met free = omega (arith, pass-unmet met (idlePath links values met free .slots) (idle-fresh links values met free .once))
 
 -- ---- what the whole pool gives, from what its stages give
 
@@ -85,6 +85,6 @@ module _ (wanted : ℕ) (links : List ℕ) (es : List Entry) {lists : ℕ} {met 
     unfolding poolFound
     pool-fault h = rw (zero-slot, ← all-got, ne-eqb (g .fault .rule) 0 h)
 
-    pub pool-idle : {found : Found} → g .fault .rule ≡ 0 → found ≡ idleFound links values lists (round g met′) (idlePath links met′ free) → found ≡ poolFound wanted links values es free
+    pub pool-idle : {found : Found} → g .fault .rule ≡ 0 → found ≡ idleFound links values lists (round g met′) (idlePath links values met′ free) → found ≡ poolFound wanted links values es free
     unfolding poolFound
     pool-idle h e = rw (zero-slot, ← all-got, eq-eqb (g .fault .rule) 0 h, many) e

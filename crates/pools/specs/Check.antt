@@ -112,7 +112,7 @@ poolFound wanted links values es free =
     let r = gatherAll wanted lists links 0 es (nothingMet (length links)) (gatheredNone lists) in
     cond (nullSlotZero links values)
     (cond (eqb (r .gathered .fault .rule) 0)
-    (idleFound links values lists r (idlePath links (r .met) free))
+    (idleFound links values lists r (idlePath links values (r .met) free))
     (faulty (r .gathered .fault)))
     (faulty (fault 10 0 0))
 

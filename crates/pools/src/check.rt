@@ -269,7 +269,7 @@ fn find_idle(
     g: Gathered,
 ) -> Found
     requires { ⌜ Size (length (now links)) × (g .live + unmet (now met) ≤ length (now links)) ⌝ }
-    ensures { λ r. ⌜ r ≡ idleFound (now (links .entry)) (now (values .entry)) count (round g (now (met .entry))) (idlePath (now (links .entry)) (now (met .entry)) free) ⌝ }
+    ensures { λ r. ⌜ r ≡ idleFound (now (links .entry)) (now (values .entry)) count (round g (now (met .entry))) (idlePath (now (links .entry)) (now (values .entry)) (now (met .entry)) free) ⌝ }
 {
     let idle = walks::walk::walk_idle(links, values, met, free);
     let many = idle.length;

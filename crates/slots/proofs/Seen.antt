@@ -1,5 +1,5 @@
 -- Laws of the record of slots met: marking a slot that was not met adds it to the slots seen, and leaves one fewer to meet.
-use mathlib.Core.Path.{_≡_, refl, ap}
+use mathlib.Core.Path.{_≡_, refl, ap, _∙_}
 use mathlib.Core.Logic.{_≢_}
 use mathlib.Core.Bool.{Bool, true, false, cond, not}
 use mathlib.Core.List.{List, [], _∷_}
@@ -9,10 +9,12 @@ use native.Mathlib.Decide.{decLt}
 use native.Mathlib.Omega.{arith}
 use lib.Dec.{eqb, eqb·suc-zero}
 use lib.ListN.{length, getD, set, length-set, replicate, getD-replicate, List·getD-eq-default}
-use lib.Seq.{getD-set-same, getD-set-other}
+use lib.Seq.{getD-set-same, getD-set-other, set-comm}
+use borrow.Author.Tests.{ne-eqb}
+use Rattle.books.specs.Book.{nullSlot}
 use Rattle.books.proofs.Tests.{not-both}
 use Rattle.chains.specs.Count.{hit}
-use Rattle.slots.specs.Met.{isMetOf, markOf, unmet, seen}
+use Rattle.slots.specs.Met.{isMetOf, markOf, unmarked, unmet, seen}
 
 pub seen-le : (met : List ℕ) (y : ℕ) → seen met y ≤ 1
 seen-le met y = go (isMetOf met y)
@@ -72,6 +74,15 @@ read-any [] i a b h = absurd (not-suc-le-zero h)
 read-any (x ∷ xs) zero a b h = refl
 read-any (x ∷ xs) (suc i) a b h = read-any xs i a b (le-of-suc-le-suc h)
 
+-- a place that is read tells whether its slot was met
+pub read-met : (met : List ℕ) (x : ℕ) → x < length met → getD met x 0 ≢ 0 → isMetOf met x ≡ true
+unfolding isMetOf
+read-met met x h n = ap (λ v. not (eqb v 0)) (read-any met x 1 0 h) ∙ rw (ne-eqb (getD met x 0) 0 n)
+
+pub read-unmet : (met : List ℕ) (x : ℕ) → x < length met → getD met x 0 ≡ 0 → isMetOf met x ≡ false
+unfolding isMetOf
+read-unmet met x h e = ap (λ v. not (eqb v 0)) (read-any met x 1 0 h ∙ e)
+
 -- marking, on any record: the slot is met then, and every other is as it was
 pub mark-met : (met : List ℕ) (x : ℕ) → isMetOf (markOf met x) x ≡ true
 unfolding isMetOf markOf
@@ -84,3 +95,31 @@ mark-met met x = go (decLt x (length met))
 pub mark-other : (met : List ℕ) (x y : ℕ) → y ≢ x → isMetOf (markOf met x) y ≡ isMetOf met y
 unfolding isMetOf markOf
 mark-other met x y d = rw (getD-set-other met x y 1 1 d)
+
+-- the marks of two slots do not hang on their order
+pub mark-comm : (met : List ℕ) (x y : ℕ) → x ≢ y → markOf (markOf met x) y ≡ markOf (markOf met y) x
+unfolding markOf
+mark-comm met x y d = set-comm met x y 1 1 d
+
+pub marked-length : (met : List ℕ) (x : ℕ) → length (markOf met x) ≡ length met
+unfolding markOf
+marked-length met x = length-set met x 1
+
+-- a slot that was not met has a place in the record, and one past its end counts as met
+pub met-past : (met : List ℕ) (x : ℕ) → length met ≤ x → isMetOf met x ≡ true
+unfolding isMetOf
+met-past met x h = rw (List·getD-eq-default met 1 {n = x} h)
+
+pub met-place : (met : List ℕ) (x : ℕ) → isMetOf met x ≡ false → x < length met
+met-place met x m = go (decLt x (length met))
+  where
+    go : Dec (x < length met) → x < length met
+    go (yes h) = h
+    go (no h) = not-both _ (met-past met x (omega arith)) m
+
+-- the null slot's mark is taken away again where it was not met before
+pub unmark-mark : (met : List ℕ) → isMetOf met nullSlot ≡ false → unmarked (markOf met nullSlot) ≡ met
+unfolding isMetOf markOf
+unmark-mark [] m = not-both true refl m
+unmark-mark (zero ∷ met) m = refl
+unmark-mark (suc b ∷ met) m = not-both _ (met-first b met) m

@@ -1,11 +1,12 @@
 -- Laws of the lowest slot that is not wiped: it is 0 exactly where every slot is wiped, and else the lowest that is not.
-use mathlib.Core.Path.{_≡_, refl, ap, _∙_}
+use mathlib.Core.Path.{_≡_, refl, sym, ap, _∙_}
 use mathlib.Core.Logic.{_≢_, _↔_, _⊎_, inl, inr, ⊎-elim}
 use mathlib.Core.List.{List, [], _∷_, _++_}
 use Prim.Native.Nat.{ℕ, _≤_, _<_}
 use native.Mathlib.Nat.{not-suc-le-zero}
 use native.Mathlib.Decide.{ℕ-discrete}
 use native.Mathlib.Omega.{arith}
+use lib.Bits.{bitOr, bitXor, or-add-and, and-le-l, and-le-r}
 use lib.Dec.{eqb, ltb}
 use borrow.Author.Tests.{eq-eqb, ne-eqb, eqb-true, eqb-false, ltb-true, ltb-false}
 use Rattle.books.specs.Book.{nullSlot, wipeWord}
@@ -14,6 +15,7 @@ use Rattle.chains.specs.Count.{count}
 use Rattle.chains.specs.Chain.{cell}
 use Rattle.chains.proofs.Count.{hit-other, count-first}
 use Rattle.chains.proofs.Ends.{first-not-null}
+use Rattle.chains.proofs.Xor.{xor-cancel-r}
 use Rattle.slots.specs.Walk.{lower, unwipedFrom, Lowest}
 
 pub unwiped-append : (values xs ys : List ℕ) (least : ℕ) → unwipedFrom values (xs ++ ys) least ≡ unwipedFrom values ys (unwipedFrom values xs least)
@@ -106,3 +108,18 @@ module _ (values xs : List ℕ) (z : count 0 xs ≡ 0) where
       go r =
           let (h, k) : (0 < count (unwipedFrom values xs 0) xs) × (cell values (unwipedFrom values xs 0) ≢ wipeWord) = ⊎-elim (λ e. absurd (n e)) (λ w. w) (r .one) in
           record { inside = h; notWiped = k; lowest = λ y i j. r .slots y i j .1 }
+
+-- ---- the bits in which values differ from the wipe word, gathered into one
+
+or-none : (a b : ℕ) → bitOr a b ≡ 0 → (a ≡ 0) × (b ≡ 0)
+or-none a b h = (omega (arith, or-add-and a b, and-le-r a b), omega (arith, or-add-and a b, and-le-l a b))
+
+xor-none : (a b : ℕ) → bitXor a b ≡ 0 → a ≡ b
+xor-none a b h = sym (xor-cancel-r a b) ∙ ap (λ x. bitXor x b) h
+
+-- where no bit differs, up to a slot and at the slot itself, none up to and with it is unwiped
+pub unlike-on : (values passed : List ℕ) (slot unlike : ℕ) → (unlike ≡ 0 → unwipedFrom values passed nullSlot ≡ nullSlot)
+    → bitOr unlike (bitXor (cell values slot) wipeWord) ≡ 0 → unwipedFrom values (passed ++ slot ∷ []) nullSlot ≡ nullSlot
+unlike-on values passed slot unlike u h =
+    let (a, b) = or-none unlike (bitXor (cell values slot) wipeWord) h in
+    unwiped-append values passed (slot ∷ []) nullSlot ∙ ap (unwipedFrom values (slot ∷ [])) (u a) ∙ rw (eq-eqb (cell values slot) wipeWord (xor-none _ _ b))

@@ -4,6 +4,7 @@ use mathlib.Core.List.{List, [], _∷_}
 use Prim.Native.Nat.{ℕ, zero, suc}
 use lib.Dec.{eqb}
 use lib.ListN.{getD, set}
+use Rattle.books.specs.Book.{nullSlot}
 
 unfoldable pub isMetOf : List ℕ → ℕ → Bool
 isMetOf met slot = not (eqb (getD met slot 1) 0)
@@ -14,6 +15,10 @@ seen met y = cond (isMetOf met y) 1 0
 
 unfoldable pub markOf : List ℕ → ℕ → List ℕ
 markOf met slot = set met slot 1
+
+-- the null slot's place is cleared
+abbrev pub unmarked : List ℕ → List ℕ
+unmarked met = set met nullSlot 0
 
 -- the slots of a sequence are marked, one after the other
 abbrev pub markAll : List ℕ → List ℕ → List ℕ

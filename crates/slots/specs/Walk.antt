@@ -32,8 +32,16 @@ walkOn onward links (suc steps) met before slot =
     (passing slot (walkOn onward links steps (markOf met slot) slot (onward before (cell links slot))))
     (record { ok = false; slots = [] }))
 
+-- a walk goes over a record that has a place for each link, and in which the null slot is not met
+unfoldable pub walkable : List ℕ → List ℕ → Bool
+walkable links met = eqb (length links) (length met) && not (isMetOf met nullSlot)
+
+-- any other is refused: no slot is passed
+abbrev pub noPath : Path
+noPath = record { ok = false; slots = [] }
+
 abbrev pub walkFrom : (onward : ℕ → ℕ → ℕ) → List ℕ → List ℕ → ℕ → Path
-walkFrom onward links met head = walkOn onward links (suc (unmet met)) met nullSlot head
+walkFrom onward links met head = cond (walkable links met) (walkOn onward links (suc (unmet met)) met nullSlot head) noPath
 
 -- what is so of the slots that a walk passes: they are from 1 to N-1, none was met or is passed twice, and marking them marks just these
 pub record Passes (links met slots : List ℕ) : Type 0 where
@@ -72,13 +80,18 @@ pub record Lowest (values xs : List ℕ) (low : ℕ) : Type 0 where
   pub notWiped : cell values low ≢ wipeWord
   pub lowest : (y : ℕ) → 0 < count y xs → cell values y ≢ wipeWord → low ≤ y
 
--- the walk along the idle chain
-abbrev pub idlePath : List ℕ → List ℕ → Free → Path
-idlePath links met free = walkFrom idleOnward links met (free .head)
+-- the walk along the idle chain, where each link has its value
+unfoldable pub idlePath : List ℕ → List ℕ → List ℕ → Free → Path
+idlePath links values met free = cond (eqb (length links) (length values)) (walkFrom idleOnward links met (free .head)) noPath
+
+-- so many slots from `slot` on, each the link of the one before it
+abbrev pub idleFirst : List ℕ → ℕ → ℕ → List ℕ
+idleFirst links zero slot = []
+idleFirst links (suc many) slot = slot ∷ idleFirst links many (cell links slot)
 
 -- what the walk along the idle chain answers, and which slots are marked then
 pub record IdleWalked (links values met : List ℕ) (free : Free) (r : IdleWalk) (met′ : List ℕ) : Type 0 where
-  pub ok : r .ok ≡ idlePath links met free .ok
-  pub counted : r .length ≡ length (idlePath links met free .slots)
-  pub unwiped : r .unwiped ≡ unwipedFrom values (idlePath links met free .slots) nullSlot
-  pub marked : met′ ≡ markAll met (idlePath links met free .slots)
+  pub ok : r .ok ≡ idlePath links values met free .ok
+  pub counted : r .length ≡ length (idlePath links values met free .slots)
+  pub unwiped : r .unwiped ≡ unwipedFrom values (idlePath links values met free .slots) nullSlot
+  pub marked : met′ ≡ markAll met (idlePath links values met free .slots)

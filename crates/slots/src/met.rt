@@ -1,6 +1,7 @@
 // The record of slots met, one byte a slot: whether a slot was met, and marking one.
 ghost use mathlib.Core.Path.{_≡_};
 ghost use Rattle.slots.specs.Met.{isMetOf, markOf};
+ghost use Rattle.slots.specs.Walk.{walkable};
 
 // Was the slot met? One that the record has no place for counts as met.
 pub fn is_met(met: &[u8], slot: usize) -> bool
@@ -19,4 +20,14 @@ pub fn mark(met: &mut [u8], slot: usize)
     if slot < met.len() {
         met[slot] = 1;
     }
+}
+
+// May a walk go over the record? It has a place for each link then, and the null slot is not met.
+pub fn walkable(links: &[u16], met: &[u8]) -> bool
+    ensures { λ r. ⌜ r ≡ walkable (now (links .entry)) (now (met .entry)) ⌝ }
+{
+    if links.len() == met.len() {
+        return !is_met(met, 0);
+    }
+    false
 }

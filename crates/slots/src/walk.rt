@@ -2,9 +2,14 @@
 use books::Book;
 use books::Free;
 ghost use mathlib.Core.Path.{_≡_};
+ghost use mathlib.Core.Bool.{false, not};
 ghost use mathlib.Core.List.{[], _∷_};
+ghost use Prim.Native.Nat.{_<_};
+ghost use lib.ListN.{length};
+ghost use Rattle.books.specs.Book.{nullSlot};
 ghost use Rattle.chains.specs.Chain.{cell};
-ghost use Rattle.slots.specs.Walk.{unwipedFrom, IdleWalked};
+ghost use Rattle.slots.specs.Met.{isMetOf, unmarked};
+ghost use Rattle.slots.specs.Walk.{unwipedFrom, idleFirst, IdleWalked};
 
 // Whether the walk came to the end, how many slots it passed, and the lowest of them that is not wiped, or 0.
 pub struct IdleWalk {
@@ -14,38 +19,87 @@ pub struct IdleWalk {
 }
 
 // The slots of the idle chain are passed and marked. A slot of N or more, or one that was met, ends the walk before it is passed.
+// The null slot is marked while the walk goes, so that one test sees both a slot that was met and the chain's end.
+// Refused, and nothing changes, where a link has no value or the record is not walkable.
 pub fn walk_idle(links: &[u16], values: &[u64], met: &mut [u8], free: Free) -> IdleWalk
     ensures { λ r. ⌜ IdleWalked (now (links .entry)) (now (values .entry)) (now (met .entry)) free r (now (met .exit)) ⌝ }
 {
-    let mut slot = free.head;
-    let mut length: usize = 0;
-    let mut unwiped = Book::NULL;
-    while slot != Book::NULL {
-        let i = books::wide(slot);
-        if links.len() <= i {
-            return IdleWalk {
-                ok: false,
-                length,
-                unwiped,
-            };
-        }
-        if crate::met::is_met(met, i) {
-            return IdleWalk {
-                ok: false,
-                length,
-                unwiped,
-            };
-        }
-        crate::met::mark(met, i);
-        unwiped = gather(values, slot, unwiped);
-        length += 1;
-        slot = links[i];
+    if links.len() != values.len() {
+        return refused();
     }
+    if !crate::met::walkable(links, met) {
+        return refused();
+    }
+    met[0] = 1;
+    let mut slot = books::wide(free.head);
+    let mut length: usize = 0;
+    let mut unlike: u64 = 0;
+    while slot < links.len() {
+        if met[slot] != 0 {
+            return ended(links, values, met, free, slot, length, unlike);
+        }
+        met[slot] = 1;
+        unlike = unlike | (values[slot] ^ Book::WIPE);
+        length += 1;
+        slot = books::wide(links[slot]);
+    }
+    ended(links, values, met, free, slot, length, unlike)
+}
+
+fn refused() -> IdleWalk
+    ensures { λ r. ⌜ r ≡ record { ok = false; length = 0; unwiped = nullSlot } ⌝ }
+{
     IdleWalk {
-        ok: true,
-        length,
+        ok: false,
+        length: 0,
+        unwiped: Book::NULL,
+    }
+}
+
+// The walk stopped at `slot`. The null slot's mark is taken away: where the slot is not met then, it was the null.
+// `unlike` has a bit wherever a value that was passed differs from the wipe word; only then is the lowest such slot looked for.
+fn ended(
+    links: &[u16],
+    values: &[u64],
+    met: &mut [u8],
+    free: Free,
+    slot: usize,
+    many: usize,
+    unlike: u64,
+) -> IdleWalk
+    requires { ⌜ (0 < length (now met)) × (unlike ≡ 0 → unwipedFrom (now values) (idleFirst (now links) many (free .head)) nullSlot ≡ nullSlot) ⌝ }
+    ensures { λ r. ⌜ (now (met .exit) ≡ unmarked (now (met .entry))) × (r ≡ record { ok = not (isMetOf (unmarked (now (met .entry))) slot); length = many; unwiped = unwipedFrom (now (values .entry)) (idleFirst (now (links .entry)) many (free .head)) nullSlot }) ⌝ }
+{
+    met[0] = 0;
+    let ok = !crate::met::is_met(met, slot);
+    if unlike == 0 {
+        return IdleWalk {
+            ok,
+            length: many,
+            unwiped: Book::NULL,
+        };
+    }
+    let unwiped = lowest_unwiped(links, values, free, many);
+    IdleWalk {
+        ok,
+        length: many,
         unwiped,
     }
+}
+
+// Of so many slots from the free head on, the lowest that is not wiped, or 0.
+fn lowest_unwiped(links: &[u16], values: &[u64], free: Free, many: usize) -> u16
+    ensures { λ r. ⌜ r ≡ unwipedFrom (now (values .entry)) (idleFirst (now (links .entry)) many (free .head)) nullSlot ⌝ }
+{
+    let mut slot = free.head;
+    let mut least = Book::NULL;
+    let mut left = many;
+    while 0 < left {
+        least = gather(values, slot, least);
+        slot = link_of(links, slot);
+        left -= 1;
+    }
+    least
 }
 
 // The lower of the slot and `least`, which is 0 for none, where the slot's value is not the wipe word; else `least`.
@@ -71,6 +125,17 @@ fn value_of(values: &[u64], slot: u16) -> u64
     let i = books::wide(slot);
     if i < values.len() {
         return values[i];
+    }
+    0
+}
+
+// The slot's link, or 0 past the end.
+fn link_of(links: &[u16], slot: u16) -> u16
+    ensures { λ r. ⌜ r ≡ cell (now (links .entry)) slot ⌝ }
+{
+    let i = books::wide(slot);
+    if i < links.len() {
+        return links[i];
     }
     0
 }

@@ -12,7 +12,7 @@ idle-fault-requires c κs =
     let w = c .before .before .before .walk-idle .ensures in (
       omega arith,
       omega arith,
-      omega (arith, w .counted, idle-at-most (now (s .links)) (now (s .met)) (s .free)),
+      omega (arith, w .counted, idle-at-most (now (s .links)) (now (s .values)) (now (s .met)) (s .free)),
     )
 
 returns : tie.Need-returns

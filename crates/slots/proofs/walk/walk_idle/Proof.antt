@@ -1,82 +1,132 @@
 -- `slots::walk::walk_idle`: at each turn the path is the slots passed so far and then the path from here.
 use mathlib.Core.Path.{_≡_, refl, sym, ap, _∙_}
-use mathlib.Core.Bool.{false}
-use mathlib.Core.List.{List, [], _∷_, _++_}
-use Prim.Native.Nat.{ℕ, suc}
+use mathlib.Core.Bool.{true, false, not}
+use mathlib.Core.List.{List, [], _∷_, _++_, append-nil}
+use Prim.Native.Nat.{ℕ, suc, _+_, _<_}
+use native.Mathlib.Nat.{add-zero, add-assoc}
 use native.Mathlib.Omega.{arith}
+use lib.ListN.{length, length-set}
 use denote.Ref.{now}
 use borrow.Author.Needs.{needs}
+use borrow.Author.Tests.{not-true, not-false}
 use Rattle.books.specs.Book.{nullSlot}
 use Rattle.chains.specs.Chain.{cell}
-use Rattle.slots.specs.Met.{isMetOf, markOf, unmet}
-use Rattle.slots.specs.Walk.{idleOnward, unwipedFrom}
-use Rattle.slots.proofs.Seen.{unmet-mark}
-use Rattle.slots.proofs.Unwiped.{unwiped-append}
-use Rattle.slots.proofs.Going.{Going, going-start, going-on, going-end, going-past, going-met, going-length, going-room, idle-walked}
+use Rattle.slots.specs.Met.{isMetOf, markOf, unmarked, unmet}
+use Rattle.slots.specs.Walk.{walkable, idleOnward, idleFirst, unwipedFrom}
+use Rattle.slots.proofs.Seen.{unmet-mark, met-place, unmark-mark, read-met, read-unmet}
+use Rattle.slots.proofs.Unwiped.{unlike-on}
+use Rattle.slots.proofs.Going.{Guarded, guarded-start, guarded-from, guarded-on, guarded-length, guarded-some, guarded-room, walkable-both, Firsts, firsts-start, firsts-on, idle-walked, idle-unvalued, idle-unwalkable}
 use Rattle.slots.proofs.walk.walk_idle.Statement.{statement}
 use Rattle.slots.proofs.walk.walk_idle.Tie as tie
+use Rattle.slots.proofs.walk.walk_idle.Reads as reads
+use Rattle.slots.proofs.walk.walk_idle.Lts as lts
+use Rattle.books.proofs.wide.Reads as wide-reads
+use Rattle.slots.proofs.met.walkable.Reads as walkable-reads
+use Rattle.slots.proofs.walk.ended.Reads as ended-reads
+use Rattle.slots.proofs.walk.refused.Reads as refused-reads
 
 abbrev Inv-loop : tie.InvT-loop
-Inv-loop links values met₀ slot₀ many₀ unwiped₀ met slot many unwiped =
-    (passed : List ℕ) × Going idleOnward links met₀ slot₀ passed met slot many × (unwiped ≡ unwipedFrom values passed nullSlot)
+Inv-loop links values met₀ free slot₀ many₀ unlike₀ met slot many unlike =
+    (passed : List ℕ) × Guarded idleOnward links (unmarked met₀) slot₀ passed met slot many × Firsts links slot₀ passed slot many × (unlike ≡ 0 → unwipedFrom values passed nullSlot ≡ nullSlot)
 
 abbrev μ-loop : tie.MeasureT-loop
-μ-loop links values met₀ slot₀ many₀ unwiped₀ met slot many unwiped = unmet met
+μ-loop links values met₀ free slot₀ many₀ unlike₀ met slot many unlike = unmet met
 
--- the test is of the slot itself
-sees : (c : tie.After-is-met Inv-loop μ-loop) → isMetOf (c .before .before .before .before .before .loop .met) (c .before .before .before .before .before .loop .slot) ≡ c .is-met .result
-sees c = ap (isMetOf (c .before .before .before .before .before .loop .met)) (sym (c .before .before .before .wide .ensures .0)) ∙ sym (c .is-met .ensures)
+-- the walk on its way from the free head itself, over the record as it was lent
+module _ (c : tie.At-loop Inv-loop μ-loop) where
+  abbrev start : tie.Start Inv-loop μ-loop
+  start = c .before .before .before .before .before .before .before .before .before
 
--- and so is the mark
-marks : (c : tie.After-mark Inv-loop μ-loop)
-    → c .mark .last .0 ≡ markOf (c .before .before .before .before .before .before .before .before .loop .met) (c .before .before .before .before .before .before .before .before .loop .slot)
-marks c = c .mark .ensures ∙ ap (markOf (c .before .before .before .before .before .before .before .before .loop .met)) (c .before .before .before .before .before .before .wide .ensures .0)
+  walks : walkable (now (start .args .links)) (now (start .args .met)) ≡ true
+  walks = sym (c .before .before .before .walkable .ensures) ∙ not-false _ (c .before .before .if2 .left)
 
-returns : tie.Need-returns Inv-loop μ-loop
-returns c =
-    let (passed, g, u) = c .before .before .before .loop .inv in idle-walked g u (going-past g (c .before .before .loop-test .taken) (omega arith))
+  abbrev passed : List ℕ
+  passed = c .loop .inv .0
 
-returns-2 : tie.Need-returns-2 Inv-loop μ-loop
-returns-2 c =
-    let (passed, g, u) = c .before .before .before .before .before .before .loop .inv in
-    idle-walked g u
-    (going-met g (c .before .before .before .before .before .loop-test .taken) (omega arith) (sees (c .before) ∙ c .if2 .taken))
+  goes : Guarded idleOnward (now (start .args .links)) (now (start .args .met)) (start .args .free .head) passed (c .loop .met) (c .loop .slot) (c .loop .length)
+  unfolding markOf
+  goes =
+      guarded-from (unmark-mark (now (start .args .met)) (walkable-both (now (start .args .links)) (now (start .args .met)) walks .1)) (c .before .wide .ensures .0) (c .loop .inv .1)
 
-returns-3 : tie.Need-returns-3 Inv-loop μ-loop
-returns-3 c = let (passed, g, u) = c .before .loop .inv in idle-walked g u (going-end g (c .loop-test .left))
+  firsts : idleFirst (now (start .args .links)) (c .loop .length) (start .args .free .head) ≡ passed
+  firsts =
+      ap (idleFirst (now (start .args .links)) (c .loop .length)) (sym (c .before .wide .ensures .0))
+      ∙ ap (λ n. idleFirst (now (start .args .links)) n (c .before .wide .result)) (sym (add-zero (c .loop .length)))
+      ∙ c .loop .inv .2 0
+      ∙ append-nil passed
+
+  -- what `ended` asks for
+  asked : (0 < length (c .loop .met)) × (c .loop .unlike ≡ 0 → unwipedFrom (now (start .args .values)) (idleFirst (now (start .args .links)) (c .loop .length) (start .args .free .head)) nullSlot ≡ nullSlot)
+  asked = (guarded-some goes, λ h. ap (λ xs. unwipedFrom (now (start .args .values)) xs nullSlot) firsts ∙ c .loop .inv .3 h)
+
+  valued : length (now (start .args .links)) ≡ length (now (start .args .values))
+  valued = c .before .before .before .before .before .if1 .left
+
+  -- the record has its length again
+  same : {met′ : List ℕ} → met′ ≡ unmarked (c .loop .met) → length met′ ≡ length (now (start .args .met))
+  same e = ap length e ∙ length-set (c .loop .met) 0 0 ∙ guarded-length goes ∙ walkable-both (now (start .args .links)) (now (start .args .met)) walks .0
+
+-- the null slot has a place
+first-place : tie.Need-slice-write-met Inv-loop μ-loop
+first-place c =
+    let a = c .before .before .before .before .before .before .before .args in
+    let w : walkable (now (a .links)) (now (a .met)) ≡ true = sym (c .before .walkable .ensures) ∙ not-false _ (c .if2 .left) in
+    let h : 0 < length (now (a .met)) = met-place (now (a .met)) nullSlot (walkable-both (now (a .links)) (now (a .met)) w .1) in
+    search needs
+
+loop-holds : tie.Need-loop-holds Inv-loop μ-loop
+unfolding markOf
+loop-holds c =
+    let a = c .before .before .before .before .before .before .before .before .args in
+    let w : walkable (now (a .links)) (now (a .met)) ≡ true = sym (c .before .before .walkable .ensures) ∙ not-false _ (c .before .if2 .left) in (
+      [],
+      guarded-from (sym (unmark-mark (now (a .met)) (walkable-both (now (a .links)) (now (a .met)) w .1))) refl (guarded-start idleOnward (now (a .links)) (now (a .met)) (c .wide .result) w),
+      firsts-start (now (a .links)) (c .wide .result),
+      λ h. refl,
+    )
 
 -- the slot is passed
-module _ (c : tie.Else2 Inv-loop μ-loop) where
+module _ (c : tie.Else3 Inv-loop μ-loop) where
   abbrev here : tie.At-loop Inv-loop μ-loop
-  here = c .before .before .before .before .before .before
+  here = c .before .before .before
 
-  abbrev args : tie.Start Inv-loop μ-loop
-  args = here .before .before .before .before
+  placed : here .loop .slot < length (here .loop .met)
+  placed = omega (arith, guarded-length (goes here), c .before .before .loop-test .taken)
 
   fresh : isMetOf (here .loop .met) (here .loop .slot) ≡ false
-  fresh = sees (c .before) ∙ c .if2 .left
+  fresh = read-unmet (here .loop .met) (here .loop .slot) placed (c .if3 .left)
 
-  fewer : suc (unmet (markOf (here .loop .met) (here .loop .slot))) ≡ unmet (here .loop .met)
-  fewer = unmet-mark (here .loop .met) (here .loop .slot) fresh
-
-  gathers : unwipedFrom (now (args .args .values)) (here .loop .slot ∷ []) (here .loop .unwiped) ≡ unwipedFrom (now (args .args .values)) (here .loop .inv .0 ++ here .loop .slot ∷ []) nullSlot
-  gathers =
-      ap (unwipedFrom (now (args .args .values)) (here .loop .slot ∷ [])) (here .loop .inv .2)
-      ∙ sym (unwiped-append (now (args .args .values)) (here .loop .inv .0) (here .loop .slot ∷ []) nullSlot)
-
-add-length : tie.Need-add-length Inv-loop μ-loop
-add-length c = omega (arith, going-room (c .before .before .before .before .before .before .before .before .before .before .before .loop .inv .1) (fresh (c .before .before .before .before .before)))
+stopped : (c : tie.Then3 Inv-loop μ-loop) → isMetOf (c .before .before .before .loop .met) (c .before .before .before .loop .slot) ≡ true
+stopped c =
+    let at = c .before .before .before in
+    read-met (at .loop .met) (at .loop .slot) (omega (arith, guarded-length (goes at), c .before .before .loop-test .taken)) (c .if3 .taken)
 
 loop-less : tie.Need-loop-less Inv-loop μ-loop
-loop-less c = omega (arith, ap unmet (marks (c .before .before .before .before)), fewer (c .before .before .before .before .before .before))
+unfolding markOf
+loop-less c =
+    let e = c .before .before .before in omega (arith, unmet-mark (here e .loop .met) (here e .loop .slot) (fresh e))
 
 loop-again : tie.Need-loop-again Inv-loop μ-loop
+unfolding markOf
 loop-again c =
-    let e = c .before .before .before .before .before .before in (
-      here e .loop .inv .0 ++ here e .loop .slot ∷ [],
-      going-on (here e .loop .inv .1) (c .before .before .before .before .before .before .before .before .before .before .before .loop-test .taken) (omega arith) (fresh e) (marks (c .before .before .before .before)) (ap (cell (now (args e .args .links))) (c .before .before .before .before .before .before .before .before .before .before .wide .ensures .0)),
-      c .before .gather .ensures ∙ gathers e,
+    let e = c .before .before .before in
+    let at = here e in (
+      passed at ++ at .loop .slot ∷ [],
+      guarded-on (at .loop .inv .1) (e .before .before .loop-test .taken) (fresh e) refl (c .wide2 .ensures .0),
+      firsts-on (now (start at .args .links)) (at .before .wide .result) (passed at) (at .loop .slot) (at .loop .length) (at .loop .inv .2) (c .wide2 .ensures .0),
+      unlike-on (now (start at .args .values)) (passed at) (at .loop .slot) (at .loop .unlike) (at .loop .inv .3),
     )
+
+returns-3 : tie.Need-returns-3 Inv-loop μ-loop
+returns-3 c =
+    let e = c .before .before .before .before in
+    let at = e .before .before .before in
+    idle-walked (valued at) (goes at) (firsts at) (λ h. stopped e) (c .before .before .ended .ensures .0) (c .before .before .ended .ensures .1)
+
+returns-4 : tie.Need-returns-4 Inv-loop μ-loop
+returns-4 c =
+    let at = c .before .before .before .before .before in
+    idle-walked (valued at) (goes at) (firsts at) (λ h. absurd (omega (arith, c .before .before .before .before .loop-test .left))) (c .before .before .ended2 .ensures .0) (c .before .before .ended2 .ensures .1)
 
 pub walk-idle-spec : {M : Type 1} → statement M
 walk-idle-spec =
@@ -84,19 +134,28 @@ walk-idle-spec =
     (tie.spec
     Inv-loop
     μ-loop
-    (λ c. ([], going-start idleOnward _ _ _, refl))
     (λ c κs. search needs)
-    (λ c. going-length (c .before .before .before .loop .inv .1))
-    returns
-    (λ c κs. search needs)
-    (λ c. going-length (c .before .before .before .before .before .before .loop .inv .1))
-    returns-2
+    (λ c. idle-unvalued (c .refused .ensures) (c .before .if1 .taken))
     (λ c κs. search needs)
     (λ c κs. search needs)
-    add-length
+    (λ c. search needs)
+    (λ c. idle-unwalkable (c .refused2 .ensures) (c .before .before .before .before .if1 .left) (sym (c .before .before .walkable .ensures) ∙ not-true _ (c .before .if2 .taken)))
+    first-place
+    (λ c κs. search needs)
+    loop-holds
+    (λ c. omega (arith, guarded-length (goes (c .before .before)), c .before .loop-test .taken))
+    (λ c κs. asked (c .before .before .before .before))
+    (λ c. same (c .before .before .before .before .before .before .before) (c .before .before .ended .ensures .0))
+    returns-3
+    (λ c. placed c)
+    (λ c. search needs)
+    (λ c. omega (arith, valued (c .before .before .before .before), c .before .before .before .loop-test .taken))
+    (λ c. omega (arith, guarded-room (goes (c .before .before .before .before)) (fresh (c .before))))
     (λ c. search needs)
     (λ c. search needs)
+    (λ c κs. search needs)
     loop-less
     loop-again
-    (λ c. going-length (c .before .loop .inv .1))
-    returns-3)
+    (λ c κs. asked (c .before .before))
+    (λ c. same (c .before .before .before .before .before) (c .before .before .ended2 .ensures .0))
+    returns-4)

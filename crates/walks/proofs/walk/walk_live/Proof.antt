@@ -1,73 +1,114 @@
 -- `walks::walk::walk_live`: at each turn the path is the slots passed so far and then the path from here.
 use mathlib.Core.Path.{_≡_, refl, sym, ap, _∙_}
-use mathlib.Core.Bool.{false}
+use mathlib.Core.Bool.{true, false}
 use mathlib.Core.List.{List, [], _∷_, _++_}
-use Prim.Native.Nat.{ℕ, suc}
+use Prim.Native.Nat.{ℕ, _<_}
 use native.Mathlib.Omega.{arith}
-use lib.Dec.{eqb}
+use lib.ListN.{length, length-set}
 use denote.Ref.{now}
 use borrow.Author.Needs.{needs}
+use borrow.Author.Tests.{not-true, not-false}
 use Rattle.books.specs.Book.{nullSlot}
 use Rattle.chains.specs.Chain.{cell, lastOr}
 use Rattle.chains.proofs.Chain.{last-append}
-use Rattle.slots.specs.Met.{isMetOf, markOf, unmet}
-use Rattle.slots.proofs.Seen.{unmet-mark}
-use Rattle.slots.proofs.Going.{Going, going-start, going-from, going-on, going-end, going-past, going-met, going-length, going-room}
+use Rattle.slots.specs.Met.{isMetOf, markOf, unmarked, unmet}
+use Rattle.slots.specs.Walk.{walkable}
+use Rattle.slots.proofs.Seen.{unmet-mark, met-place, unmark-mark, read-met, read-unmet}
+use Rattle.slots.proofs.Going.{Guarded, guarded-start, guarded-from, guarded-on, guarded-length, guarded-some, guarded-room, walkable-both}
 use Rattle.walks.specs.Walk.{liveOnward}
-use Rattle.walks.proofs.Walks.{live-walked}
+use Rattle.walks.proofs.Walks.{live-walked, live-unwalkable}
 use Rattle.walks.proofs.walk.walk_live.Statement.{statement}
 use Rattle.walks.proofs.walk.walk_live.Tie as tie
+use Rattle.walks.proofs.walk.walk_live.Reads as reads
+use Rattle.walks.proofs.walk.walk_live.Lts as lts
+use Rattle.books.proofs.wide.Reads as wide-reads
+use Rattle.slots.proofs.met.walkable.Reads as walkable-reads
+use Rattle.walks.proofs.walk.ended.Reads as ended-reads
 
 abbrev Inv-loop : tie.InvT-loop
 Inv-loop links met₀ list slot₀ last₀ many₀ met slot last many =
-    (passed : List ℕ) × Going liveOnward links met₀ slot₀ passed met slot many × (last ≡ lastOr nullSlot passed)
+    (passed : List ℕ) × Guarded liveOnward links (unmarked met₀) slot₀ passed met slot many × (last ≡ lastOr nullSlot passed)
 
 abbrev μ-loop : tie.MeasureT-loop
 μ-loop links met₀ list slot₀ last₀ many₀ met slot last many = unmet met
 
--- the walk on its way from the list's head itself
-from-head : (c : tie.At-loop Inv-loop μ-loop)
-    → Going liveOnward (now (c .before .before .before .before .args .links)) (now (c .before .before .before .before .args .met)) (c .before .before .before .before .args .list .head) (c .loop .inv .0) (c .loop .met) (c .loop .slot) (c .loop .length)
-from-head c = going-from liveOnward _ (c .before .wide .ensures .0) (c .loop .inv .1)
+-- the walk on its way from the list's head itself, over the record as it was lent
+module _ (c : tie.At-loop Inv-loop μ-loop) where
+  abbrev start : tie.Start Inv-loop μ-loop
+  start = c .before .before .before .before .before .before .before
 
-returns : tie.Need-returns Inv-loop μ-loop
-returns c = let g = from-head (c .before .before) in live-walked g (going-past g (c .before .loop-test .taken) (omega arith)) refl
+  walks : walkable (now (start .args .links)) (now (start .args .met)) ≡ true
+  walks = sym (c .before .before .before .walkable .ensures) ∙ not-false _ (c .before .before .if1 .left)
 
-returns-2 : tie.Need-returns-2 Inv-loop μ-loop
-returns-2 c =
-    let g = from-head (c .before .before .before .before .before) in
-    live-walked g (going-met g (c .before .before .before .before .loop-test .taken) (omega arith) (sym (c .before .is-met .ensures) ∙ c .if2 .taken)) refl
+  goes : Guarded liveOnward (now (start .args .links)) (now (start .args .met)) (start .args .list .head) (c .loop .inv .0) (c .loop .met) (c .loop .slot) (c .loop .length)
+  unfolding markOf
+  goes =
+      guarded-from (unmark-mark (now (start .args .met)) (walkable-both (now (start .args .links)) (now (start .args .met)) walks .1)) (c .before .wide .ensures .0) (c .loop .inv .1)
 
-returns-3 : tie.Need-returns-3 Inv-loop μ-loop
-returns-3 c =
-    let g = from-head (c .before .before) in
-    live-walked g (going-end g (c .before .loop-test .left)) (ap (λ s. eqb s (c .wide3 .result)) (c .before .before .loop .inv .2) ∙ ap (λ t. eqb (lastOr nullSlot (c .before .before .loop .inv .0)) t) (c .wide3 .ensures .0))
+  -- the record has its length again
+  same : {met′ : List ℕ} → met′ ≡ unmarked (c .loop .met) → length met′ ≡ length (now (start .args .met))
+  same e = ap length e ∙ length-set (c .loop .met) 0 0 ∙ guarded-length goes ∙ walkable-both (now (start .args .links)) (now (start .args .met)) walks .0
+
+-- the null slot has a place
+first-place : tie.Need-slice-write-met Inv-loop μ-loop
+first-place c =
+    let a = c .before .before .before .before .before .args in
+    let w : walkable (now (a .links)) (now (a .met)) ≡ true = sym (c .before .walkable .ensures) ∙ not-false _ (c .if1 .left) in
+    let h : 0 < length (now (a .met)) = met-place (now (a .met)) nullSlot (walkable-both (now (a .links)) (now (a .met)) w .1) in
+    search needs
+
+loop-holds : tie.Need-loop-holds Inv-loop μ-loop
+unfolding markOf
+loop-holds c =
+    let a = c .before .before .before .before .before .before .args in
+    let w : walkable (now (a .links)) (now (a .met)) ≡ true = sym (c .before .before .walkable .ensures) ∙ not-false _ (c .before .if1 .left) in (
+      [],
+      guarded-from (sym (unmark-mark (now (a .met)) (walkable-both (now (a .links)) (now (a .met)) w .1))) refl (guarded-start liveOnward (now (a .links)) (now (a .met)) (c .wide .result) w),
+      refl,
+    )
 
 -- the slot is passed
 module _ (c : tie.Else2 Inv-loop μ-loop) where
   abbrev here : tie.At-loop Inv-loop μ-loop
-  here = c .before .before .before .before .before
+  here = c .before .before .before
+
+  placed : here .loop .slot < length (here .loop .met)
+  placed = omega (arith, guarded-length (goes here), c .before .before .loop-test .taken)
 
   fresh : isMetOf (here .loop .met) (here .loop .slot) ≡ false
-  fresh = sym (c .before .is-met .ensures) ∙ c .if2 .left
+  fresh = read-unmet (here .loop .met) (here .loop .slot) placed (c .if2 .left)
 
-  fewer : suc (unmet (markOf (here .loop .met) (here .loop .slot))) ≡ unmet (here .loop .met)
-  fewer = unmet-mark (here .loop .met) (here .loop .slot) fresh
-
-add-length : tie.Need-add-length Inv-loop μ-loop
-add-length c = omega (arith, going-room (c .before .before .before .before .before .before .before .before .before .before .before .loop .inv .1) (fresh (c .before .before .before .before .before .before)))
+-- the walk stops before it
+stopped : (c : tie.Then2 Inv-loop μ-loop) → isMetOf (c .before .before .before .loop .met) (c .before .before .before .loop .slot) ≡ true
+stopped c =
+    let at = c .before .before .before in
+    read-met (at .loop .met) (at .loop .slot) (omega (arith, guarded-length (goes at), c .before .before .loop-test .taken)) (c .if2 .taken)
 
 loop-less : tie.Need-loop-less Inv-loop μ-loop
-loop-less c = omega (arith, ap unmet (c .before .before .before .before .mark .ensures), fewer (c .before .before .before .before .before .before))
+unfolding markOf
+loop-less c = let e = c .before .before in omega (arith, unmet-mark (here e .loop .met) (here e .loop .slot) (fresh e))
 
 loop-again : tie.Need-loop-again Inv-loop μ-loop
+unfolding markOf
 loop-again c =
-    let e = c .before .before .before .before .before .before in (
-      here e .loop .inv .0 ++ here e .loop .slot ∷ [],
-      going-on (here e .loop .inv .1) (c .before .before .before .before .before .before .before .before .before .before .loop-test .taken) (omega arith) (fresh e) (c .before .before .before .before .mark .ensures)
-          (ap (liveOnward (here e .loop .last)) (c .wide2 .ensures .0) ∙ ap (λ l. liveOnward l (cell (now (c .before .before .before .before .before .before .before .before .before .before .before .before .before .before .before .args .links)) (here e .loop .slot))) (here e .loop .inv .2)),
-      sym (last-append nullSlot (here e .loop .inv .0) (here e .loop .slot ∷ [])),
+    let e = c .before .before in
+    let at = here e in (
+      at .loop .inv .0 ++ at .loop .slot ∷ [],
+      guarded-on (at .loop .inv .1) (e .before .before .loop-test .taken) (fresh e) refl
+          (ap (liveOnward (at .loop .last)) (c .wide2 .ensures .0) ∙ ap (λ l. liveOnward l (cell (now (start at .args .links)) (at .loop .slot))) (at .loop .inv .2)),
+      sym (last-append nullSlot (at .loop .inv .0) (at .loop .slot ∷ [])),
     )
+
+returns-2 : tie.Need-returns-2 Inv-loop μ-loop
+returns-2 c =
+    let e = c .before .before .before .before in
+    let at = e .before .before .before in
+    live-walked (goes at) (at .loop .inv .2) (λ h. stopped e) (c .before .before .ended .ensures .0) (c .before .before .ended .ensures .1)
+
+returns-3 : tie.Need-returns-3 Inv-loop μ-loop
+returns-3 c =
+    let at = c .before .before .before .before .before in
+    live-walked (goes at) (at .loop .inv .2) (λ h. absurd (omega (arith, c .before .before .before .before .loop-test .left))) (c .before .before .ended2 .ensures .0) (c .before .before .ended2 .ensures .1)
 
 pub walk-live-spec : {M : Type 1} → statement M
 walk-live-spec =
@@ -76,19 +117,22 @@ walk-live-spec =
     Inv-loop
     μ-loop
     (λ c κs. search needs)
-    (λ c. ([], going-start liveOnward _ _ _, refl))
-    (λ c. going-length (c .before .before .loop .inv .1))
-    returns
+    (λ c. search needs)
+    (λ c. live-unwalkable refl (sym (c .before .walkable .ensures) ∙ not-true _ (c .if1 .taken)))
+    first-place
     (λ c κs. search needs)
-    (λ c. going-length (c .before .before .before .before .before .loop .inv .1))
+    loop-holds
+    (λ c. omega (arith, guarded-length (goes (c .before .before)), c .before .loop-test .taken))
+    (λ c κs. guarded-some (goes (c .before .before .before .before)))
+    (λ c. same (c .before .before .before .before .before .before .before) (c .before .before .ended .ensures .0))
     returns-2
-    (λ c κs. search needs)
+    (λ c. placed c)
     (λ c. search needs)
     (λ c. search needs)
     (λ c κs. search needs)
-    add-length
+    (λ c. omega (arith, guarded-room (goes (c .before .before .before .before .before)) (fresh (c .before .before))))
     loop-less
     loop-again
-    (λ c κs. search needs)
-    (λ c. going-length (c .before .before .loop .inv .1))
+    (λ c κs. guarded-some (goes (c .before .before)))
+    (λ c. same (c .before .before .before .before .before) (c .before .before .ended2 .ensures .0))
     returns-3)
