@@ -1,6 +1,6 @@
-// The record of slots met, one byte a slot: whether a slot was met, and marking one.
+// The record of slots met, one byte a slot: whether a slot was met, and whether a walk may go over the record.
 ghost use mathlib.Core.Path.{_≡_};
-ghost use Rattle.slots.specs.Met.{isMetOf, markOf};
+ghost use Rattle.slots.specs.Met.{isMetOf};
 ghost use Rattle.slots.specs.Walk.{walkable};
 
 // Was the slot met? One that the record has no place for counts as met.
@@ -11,15 +11,6 @@ pub fn is_met(met: &[u8], slot: usize) -> bool
         return met[slot] != 0;
     }
     true
-}
-
-// The slot was met. Where the record has no place for it, nothing changes.
-pub fn mark(met: &mut [u8], slot: usize)
-    ensures { λ r. ⌜ now (met .exit) ≡ markOf (now (met .entry)) slot ⌝ }
-{
-    if slot < met.len() {
-        met[slot] = 1;
-    }
 }
 
 // May a walk go over the record? It has a place for each link then, and the null slot is not met.
