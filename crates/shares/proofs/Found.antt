@@ -1,13 +1,13 @@
 -- What a call on a list knows once 1, 3 and 4 do not apply.
 use mathlib.Core.Path.{_≡_, refl, sym, ap, _∙_}
 use mathlib.Core.Logic.{_≢_}
-use mathlib.Core.Bool.{Bool, true, false}
+use mathlib.Core.Bool.{Bool, true, false, cond, _&&_}
 use mathlib.Core.List.{List, _++_}
 use Prim.Native.Nat.{ℕ, suc, _-_, _≤_, _<_}
 use native.Mathlib.Omega.{arith}
 use lib.Dec.{leb, eqb}
 use lib.ListN.{length}
-use borrow.Author.Tests.{eqb-true, eq-eqb, leb-true, leb-false, lt-leb}
+use borrow.Author.Tests.{eqb-true, eq-eqb, ne-eqb, leb-true, leb-false, lt-leb}
 use Rattle.books.specs.Book.{entryAt, AnyBook}
 use Rattle.lists.specs.declared.End.{End}
 use Rattle.lists.specs.Model.{nearOf}
@@ -15,7 +15,8 @@ use Rattle.walks.specs.Read.{countRead}
 use Rattle.pools.specs.Sound.{Shape, SoundBook}
 use Rattle.pools.specs.Size.{SizesFit, sizesFit}
 use Rattle.shares.specs.Numbers.{Test, firstThat, decided}
-use Rattle.pools.specs.Check.{checkFound, lookOf}
+use Rattle.pools.specs.declared.check.Looked.{Looked}
+use Rattle.pools.specs.Check.{checkFound, refusedBy, lookOf}
 use Rattle.shares.specs.Calls.{readOwnTests, checkTests, listTests, onListOf}
 use Rattle.pools.proofs.Size.{sizes-fit}
 use Rattle.shares.proofs.Numbers.{Numbered, nil, cons, first-first, first-then, decided-refused, decided-done}
@@ -35,6 +36,31 @@ module _ (wanted : ℕ) (links values : List ℕ) (b : AnyBook) where
       go true true e f = rw (e, f)
       go true false e f = rw (e, f)
       go false n e f = rw e
+
+-- ---- the check, and then the test of the list
+
+-- `seen` is what the check gave, and `early` the number after the test of the list
+module _ (links values : List ℕ) (b : AnyBook) (l : ℕ) (seen : Looked) (e : seen ≡ lookOf l links values b) (early : ℕ) (n : early ≡ cond (eqb (seen .refusal .number) 0 && leb (b .lists) l) 4 (seen .refusal .number)) where
+  -- together they say what `onListOf` says
+  both : cond (eqb early 0) seen (refusedBy early) ≡ onListOf links values b l
+  unfolding onListOf lookOf
+  both = go (sizesFit (length links) (length values)) (eqb (checkFound l links values b .fault .rule) 0) (leb (b .lists) l) refl refl refl
+    where
+      go : (x y z : Bool) → sizesFit (length links) (length values) ≡ x → eqb (checkFound l links values b .fault .rule) 0 ≡ y → leb (b .lists) l ≡ z → cond (eqb early 0) seen (refusedBy early) ≡ onListOf links values b l
+      go true true true ex ey ez = simp (n, e, ex, ey, ez)
+      go true true false ex ey ez = simp (n, e, ex, ey, ez)
+      go true false z ex ey ez = simp (n, e, ex, ey)
+      go false y z ex ey ez = simp (n, e, ex)
+
+  pub early-stopped : early ≢ 0 → refusedBy early ≡ onListOf links values b l
+  early-stopped d = rw (ne-eqb early 0 d) at both
+
+  pub early-passed : early ≡ 0 → (seen ≡ onListOf links values b l) × (seen .refusal .number ≡ 0)
+  early-passed z = (rw (eq-eqb early 0 z) at both, go (eqb (seen .refusal .number) 0) refl)
+    where
+      go : (x : Bool) → eqb (seen .refusal .number) 0 ≡ x → seen .refusal .number ≡ 0
+      go true ex = eqb-true _ _ ex
+      go false ex = sym (rw ex at n) ∙ z
 
 -- ---- once 1, 3 and 4 do not apply
 

@@ -48,6 +48,7 @@ pub fn pop_front(links: &mut [u16], values: &mut [u64], book: Book, list: u16) -
     pop(links, values, End::Front, book, list)
 }
 
+// `push` and `pop` look for themselves: `on_list` would copy what the check found once more, and these calls are made most often.
 fn push(
     links: &mut [u16],
     values: &mut [u64],
@@ -58,10 +59,14 @@ fn push(
 ) -> Answer
     ensures { λ r. ⌜ outcome r (now (links .exit)) (now (values .exit)) ≡ asAnswer (pushCall (now (links .entry)) (now (values .entry)) (eight book) list end value) ⌝ }
 {
-    let seen = crate::refusals::on_list(links, values, book, list);
+    let seen = pools::check::look(links, values, book, list);
     let refusal = seen.refusal;
-    if refusal.number != 0 {
-        return Answer { refusal, book };
+    let early = crate::refusals::list_number(refusal.number, book.lists, list);
+    if early != 0 {
+        return Answer {
+            refusal: Refusal { number: early },
+            book,
+        };
     }
     let found = seen.found;
     let k = books::wide(list);
@@ -84,10 +89,11 @@ fn push(
 fn pop(links: &mut [u16], values: &mut [u64], end: End, book: Book, list: u16) -> Popped
     ensures { λ r. ⌜ outcome r (now (links .exit)) (now (values .exit)) ≡ asPopped (popCall (now (links .entry)) (now (values .entry)) (eight book) list end) ⌝ }
 {
-    let seen = crate::refusals::on_list(links, values, book, list);
+    let seen = pools::check::look(links, values, book, list);
     let refusal = seen.refusal;
-    if refusal.number != 0 {
-        return refused_pop(refusal.number, book);
+    let early = crate::refusals::list_number(refusal.number, book.lists, list);
+    if early != 0 {
+        return refused_pop(early, book);
     }
     let found = seen.found;
     let number = crate::refusals::pop_number(found.length);

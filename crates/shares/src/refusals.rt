@@ -3,9 +3,23 @@ use books::Book;
 use books::Entry;
 use pools::check::Looked;
 ghost use mathlib.Core.Path.{_≡_};
+ghost use mathlib.Core.Bool.{cond, _&&_};
+ghost use lib.Dec.{leb, eqb};
 ghost use Rattle.books.specs.Book.{eight};
 ghost use Rattle.shares.specs.Numbers.{firstThat};
 ghost use Rattle.shares.specs.Calls.{pushOwnTests, popOwnTests, readOwnTests, onListOf};
+
+// The number after the check and the test of the list: 1 or 3 as the check gave it, 4 where there is no such list; else 0.
+pub(crate) fn list_number(number: u16, lists: u16, list: u16) -> u16
+    ensures { λ r. ⌜ r ≡ cond (eqb number 0 && leb lists list) 4 number ⌝ }
+{
+    if number == 0 {
+        if lists <= list {
+            return 4;
+        }
+    }
+    number
+}
 
 // 1, 3 and 4, which every call on a list tests; else 0, and what the check found.
 pub(crate) fn on_list(links: &[u16], values: &[u64], book: Book, list: u16) -> Looked
@@ -13,10 +27,9 @@ pub(crate) fn on_list(links: &[u16], values: &[u64], book: Book, list: u16) -> L
 {
     let seen = pools::check::look(links, values, book, list);
     let refusal = seen.refusal;
-    if refusal.number == 0 {
-        if book.lists <= list {
-            return pools::check::refused(4);
-        }
+    let number = list_number(refusal.number, book.lists, list);
+    if number != 0 {
+        return pools::check::refused(number);
     }
     seen
 }
