@@ -122,6 +122,7 @@ fn is_fair(entry: Entry, size: usize) -> bool
 }
 
 // Are the first `count` entries fair, and do their shares add up to less than the pool's size?
+// An entry is read field by field: read whole, the compiler takes it for one number and shifts the fields out of it.
 fn shares_fit(entries: [Entry; 8], count: usize, size: usize) -> bool
     requires { ⌜ count ≤ 8 ⌝ }
     ensures { λ r. ⌜ r ≡ gather size (take count entries) 0 ⌝ }
@@ -129,7 +130,12 @@ fn shares_fit(entries: [Entry; 8], count: usize, size: usize) -> bool
     let mut sum: usize = 0;
     let mut k: usize = 0;
     while k < count {
-        let entry = entries[k];
+        let entry = Entry {
+            head: entries[k].head,
+            tail: entries[k].tail,
+            share: entries[k].share,
+            limit: entries[k].limit,
+        };
         if !is_fair(entry, size) {
             return false;
         }

@@ -140,7 +140,8 @@ fn gathered_none(count: u16) -> Gathered
     }
 }
 
-// The walks along the first `count` lists, in number order, up to the first that fails.
+// The walks along the first `count` lists, in number order, up to the first that fails. An entry is read field by field, as in
+// `books`.
 fn gather(links: &[u16], met: &mut [u8], count: u16, entries: [Entry; 8], wanted: u16) -> Gathered
     requires { ⌜ count ≤ 8 ⌝ }
     ensures { λ r. ⌜ round r (now (met .exit)) ≡ gatherAll wanted count (now (links .entry)) 0 (take count entries) (now (met .entry)) (gatheredNone count) ⌝ }
@@ -149,7 +150,12 @@ fn gather(links: &[u16], met: &mut [u8], count: u16, entries: [Entry; 8], wanted
     let mut list: u16 = 0;
     while list < count {
         let k = books::wide(list);
-        let entry = entries[k];
+        let entry = Entry {
+            head: entries[k].head,
+            tail: entries[k].tail,
+            share: entries[k].share,
+            limit: entries[k].limit,
+        };
         let walk = walks::walk::walk_live(links, met, entry);
         if !walk.ok {
             return gather_fault(list, walk.length, g);
@@ -350,8 +356,8 @@ fn look_small(links: &[u16], values: &[u64], book: Book, wanted: u16) -> Looked
     look_over(links, values, &mut met, book, wanted)
 }
 
-// The same for any pool. To clear this record costs some 450 instructions, as much as to walk along 37 slots, so small pools have a
-// smaller one. It saves no stack: the two have one place in the frame.
+// The same for any pool. To clear this record costs as much as to walk along dozens of slots, so small pools have a smaller one.
+// It saves no stack: the two have one place in the frame.
 fn look_large(links: &[u16], values: &[u64], book: Book, wanted: u16) -> Looked
     ensures { λ r. ⌜ r ≡ lookOf wanted (now (links .entry)) (now (values .entry)) (eight book) ⌝ }
 {

@@ -41,13 +41,13 @@ turn c =
 
 returns : tie.Need-returns Inv-loop μ-loop
 returns c =
-    simp (← c .before .is-fair .ensures, not-true (c .before .is-fair .result) (c .if1 .taken)) at (sym (turn (c .before .before .before)))
-    ∙ c .before .before .before .before .loop .inv .0
+    simp (← c .before .is-fair .ensures, not-true (c .before .is-fair .result) (c .if1 .taken)) at (sym (turn (c .before .before)))
+    ∙ c .before .before .before .loop .inv .0
 
 loop-again : tie.Need-loop-again Inv-loop μ-loop
 loop-again c = (
-  simp (← c .before .before .is-fair .ensures, not-false (c .before .before .is-fair .result) (c .before .if1 .left), ← c .wide .ensures .0) at (sym (turn (c .before .before .before .before)))
-      ∙ c .before .before .before .before .before .loop .inv .0,
+  simp (← c .before .before .is-fair .ensures, not-false (c .before .before .is-fair .result) (c .before .if1 .left), ← c .wide .ensures .0) at (sym (turn (c .before .before .before)))
+      ∙ c .before .before .before .before .loop .inv .0,
   omega arith,
   omega arith,
 )
@@ -67,8 +67,14 @@ shares-fit-spec =
     (λ c. search needs)
     (λ c. search needs)
     (λ c. search needs)
-    returns
     (λ c. search needs)
+    (λ c. search needs)
+    (λ c. search needs)
+    (λ c. search needs)
+    (λ c. search needs)
+    (λ c κs. search needs)
+    returns
+    (λ c κs. search needs)
     (λ c. search needs)
     (λ c. search needs)
     (λ c. search needs)

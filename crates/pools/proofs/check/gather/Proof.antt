@@ -40,35 +40,35 @@ loop-holds c = rw (c .gathered-none .ensures) (refl, omega arith, omega arith, r
 
 -- the entry that was read, and what the walk along it tells
 same-entry : (c : tie.After-walk-live Inv-loop μ-loop)
-    → entryAt (c .before .before .before .before .before .before .before .before .before .args .t4) (c .before .before .before .wide .result) ≡ entryAt (used (c .before .before .before .before .before .before .before .before .before)) (c .before .before .before .before .before .loop .list)
+    → entryAt (c .before .before .before .before .before .before .before .before .args .t4) (c .before .before .wide .result) ≡ entryAt (used (c .before .before .before .before .before .before .before .before)) (c .before .before .before .before .loop .list)
 same-entry c =
-    ap (entryAt (c .before .before .before .before .before .before .before .before .before .args .t4)) (c .before .before .before .wide .ensures .0) ∙ sym (getD-take (c .before .before .before .before .before .before .before .before .before .args .count) (c .before .before .before .before .before .before .before .before .before .args .t4) (c .before .before .before .before .before .loop .list) zeroEntry (omega arith))
+    ap (entryAt (c .before .before .before .before .before .before .before .before .args .t4)) (c .before .before .wide .ensures .0) ∙ sym (getD-take (c .before .before .before .before .before .before .before .before .args .count) (c .before .before .before .before .before .before .before .before .args .t4) (c .before .before .before .before .loop .list) zeroEntry (omega arith))
 
 walked : (c : tie.After-walk-live Inv-loop μ-loop)
-    → LiveWalked (now (c .before .before .before .before .before .before .before .before .before .args .links)) (c .before .before .before .before .before .loop .met) (entryAt (used (c .before .before .before .before .before .before .before .before .before)) (c .before .before .before .before .before .loop .list)) (c .walk-live .result) (c .walk-live .last .1 .0)
+    → LiveWalked (now (c .before .before .before .before .before .before .before .before .args .links)) (c .before .before .before .before .loop .met) (entryAt (used (c .before .before .before .before .before .before .before .before)) (c .before .before .before .before .loop .list)) (c .walk-live .result) (c .walk-live .last .1 .0)
 walked c =
-    subst (λ (e : Entry). LiveWalked (now (c .before .before .before .before .before .before .before .before .before .args .links)) (c .before .before .before .before .before .loop .met) e (c .walk-live .result) (c .walk-live .last .1 .0)) (same-entry c) (c .walk-live .ensures)
+    subst (λ (e : Entry). LiveWalked (now (c .before .before .before .before .before .before .before .before .args .links)) (c .before .before .before .before .loop .met) e (c .walk-live .result) (c .walk-live .last .1 .0)) (same-entry c) (c .walk-live .ensures)
 
 returns : tie.Need-returns Inv-loop μ-loop
 returns c =
     rw (c .gather-fault .ensures)
-    (gather-halt _ _ _ _ (used (c .before .before .before .before .before .before .before .before .before .before .before .before .before .before)) (c .before .before .before .before .before .before .before .before .before .before .loop .list) _ (walked (c .before .before .before .before .before)) (inside (c .before .before .before .before .before .before .before .before .before)) (not-true (c .before .before .before .before .before .walk-live .result .ok) (c .before .if1 .taken))
-    ∙ c .before .before .before .before .before .before .before .before .before .before .loop .inv .0)
+    (gather-halt _ _ _ _ (used (c .before .before .before .before .before .before .before .before .before .before .before .before .before)) (c .before .before .before .before .before .before .before .before .before .loop .list) _ (walked (c .before .before .before .before .before)) (inside (c .before .before .before .before .before .before .before .before)) (not-true (c .before .before .before .before .before .walk-live .result .ok) (c .before .if1 .taken))
+    ∙ c .before .before .before .before .before .before .before .before .before .loop .inv .0)
 
 gather-one-requires : tie.Need-gather-one-requires Inv-loop μ-loop
 gather-one-requires c κs = (
-  omega (arith, live-unmet (walked (c .before .before .before .before)), c .before .before .before .before .before .before .before .before .before .loop .inv .1, unmet-le (now (c .before .before .before .before .before .before .before .before .before .before .before .before .before .args .met))),
-  omega (arith, c .before .before .before .before .before .before .before .before .before .loop .inv .2),
+  omega (arith, live-unmet (walked (c .before .before .before .before)), c .before .before .before .before .before .before .before .before .loop .inv .1, unmet-le (now (c .before .before .before .before .before .before .before .before .before .before .before .before .args .met))),
+  omega (arith, c .before .before .before .before .before .before .before .before .loop .inv .2),
 )
 
 loop-again : tie.Need-loop-again Inv-loop μ-loop
 loop-again c = (
   rw (c .gather-one .ensures .0, same-entry (c .before .before .before .before .before))
-      (gather-next _ _ _ _ (used (c .before .before .before .before .before .before .before .before .before .before .before .before .before .before)) (c .before .before .before .before .before .before .before .before .before .before .loop .list) _ (walked (c .before .before .before .before .before)) (inside (c .before .before .before .before .before .before .before .before .before)) (not-false (c .before .before .before .before .before .walk-live .result .ok) (c .before .if1 .left)))
-      ∙ c .before .before .before .before .before .before .before .before .before .before .loop .inv .0,
-  omega (arith, live-unmet (walked (c .before .before .before .before .before)), c .before .before .before .before .before .before .before .before .before .before .loop .inv .1, ap (λ g. g .live) (c .gather-one .ensures .0)),
-  omega (arith, c .before .before .before .before .before .before .before .before .before .before .loop .inv .2, c .gather-one .ensures .1),
-  c .before .before .before .before .before .walk-live .kept .1 .0 ∙ c .before .before .before .before .before .before .before .before .before .before .loop .inv .3,
+      (gather-next _ _ _ _ (used (c .before .before .before .before .before .before .before .before .before .before .before .before .before)) (c .before .before .before .before .before .before .before .before .before .loop .list) _ (walked (c .before .before .before .before .before)) (inside (c .before .before .before .before .before .before .before .before)) (not-false (c .before .before .before .before .before .walk-live .result .ok) (c .before .if1 .left)))
+      ∙ c .before .before .before .before .before .before .before .before .before .loop .inv .0,
+  omega (arith, live-unmet (walked (c .before .before .before .before .before)), c .before .before .before .before .before .before .before .before .before .loop .inv .1, ap (λ g. g .live) (c .gather-one .ensures .0)),
+  omega (arith, c .before .before .before .before .before .before .before .before .before .loop .inv .2, c .gather-one .ensures .1),
+  c .before .before .before .before .before .walk-live .kept .1 .0 ∙ c .before .before .before .before .before .before .before .before .before .loop .inv .3,
   omega arith,
 )
 
@@ -83,14 +83,20 @@ gather-spec =
     (tie.spec
     Inv-loop
     μ-loop
-    (λ c. search needs)
+    (λ c κs. search needs)
     loop-holds
+    (λ c κs. search needs)
     (λ c. search needs)
     (λ c. search needs)
     (λ c. search needs)
     (λ c. search needs)
     (λ c. search needs)
-    (λ c. c .before .before .before .before .before .walk-live .kept .1 .0 ∙ c .before .before .before .before .before .before .before .before .before .before .loop .inv .3)
+    (λ c. search needs)
+    (λ c. search needs)
+    (λ c. search needs)
+    (λ c κs. search needs)
+    (λ c κs. search needs)
+    (λ c. c .before .before .before .before .before .walk-live .kept .1 .0 ∙ c .before .before .before .before .before .before .before .before .before .loop .inv .3)
     returns
     gather-one-requires
     (λ c. search needs)
