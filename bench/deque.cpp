@@ -24,7 +24,7 @@ uint64_t queue_pop(int queue)
     return value;
 }
 
-void queue_fill(int queue, size_t, size_t held)
+void queue_fill(int queue, size_t, size_t held, uint16_t)
 {
     for (size_t i = 1; i <= held; i++)
         queue_push(queue, i);

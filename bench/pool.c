@@ -17,14 +17,14 @@ static void must(uint16_t number)
 }
 
 /* The cells are written here and not pushed one by one, as each push would check the whole pool. The check must accept them. */
-void queue_fill(int queue, size_t n, size_t held)
+void queue_fill(int queue, size_t n, size_t held, uint16_t lists)
 {
     static const uint16_t shares[FLAILREEVE_BOOK_LISTS];
     uint16_t limits[FLAILREEVE_BOOK_LISTS] = {(uint16_t)(n - 1)};
     uint16_t *link = links[queue];
 
     slots[queue] = n;
-    must(flailreeve_setup(link, n, values[queue], n, 1, shares, limits, &book[queue]));
+    must(flailreeve_setup(link, n, values[queue], n, lists, shares, limits, &book[queue]));
     if (held > 0) {
         for (size_t slot = 1; slot <= held; slot++) {
             link[slot] = (uint16_t)((slot - 1) ^ (slot == held ? 0 : slot + 1));

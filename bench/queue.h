@@ -12,7 +12,8 @@ extern "C" {
 
 enum { QUEUES = 16 };
 
-void queue_fill(int queue, size_t n, size_t held); /* a queue in room for n that holds 1, 2, .. held */
+/* A queue in room for n that holds 1, 2, .. held; in a pool one of so many lists, the others empty. */
+void queue_fill(int queue, size_t n, size_t held, uint16_t lists);
 void queue_push(int queue, uint64_t value);        /* at the back */
 uint64_t queue_pop(int queue);                     /* at the front */
 size_t queue_length(int queue);

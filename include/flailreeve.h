@@ -25,7 +25,7 @@
  * - No two buffers of one call overlap; `length`, `value`, `count` and the book are buffers too.
  * - No other thread and no interrupt handler touches these buffers while the call runs. Calls on different pools may run
  *   at the same time: nothing is shared.
- * - There is stack enough: a call uses up to 5.2 KiB (docs/SPEED.md has the bytes of each).
+ * - There is stack enough: a call uses up to 5 KiB (docs/SPEED.md has the bytes of each).
  * WHAT THE CALLER DOES NOT OWE. What the cells and the book hold may be anything: every call but setup checks the whole pool
  * before it acts, in time in proportion to N, and refuses by 3 one that is not sound. Damage that leaves it sound, as another
  * value in a list's slot, is not seen. List numbers, places and values may be anything too. Every call ends.

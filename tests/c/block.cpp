@@ -183,7 +183,7 @@ int main()
         if (seen[call].in_stack != 0)
             fail("%s leaves the block in the dead stack", model::names[call]);
     for (const auto &s : seen)
-        if (std::max(s.depth, s.refused_depth) > 5324)  // 5.2 KiB, as the header says
+        if (std::max(s.depth, s.refused_depth) > 5120)  // 5 KiB, as the header says
             fail("a call uses %zu bytes of stack", std::max(s.depth, s.refused_depth));
     std::size_t record = 4096, room = 448;
     if (seen[model::check].depth >= record + room)
