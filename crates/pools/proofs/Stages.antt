@@ -1,5 +1,5 @@
 -- The stages of the check one by one, as the code takes them: the lowest slot not met, how many slots are live, and what the whole pool gives.
-use mathlib.Core.Path.{_≡_, refl, sym, subst, ap}
+use mathlib.Core.Path.{_≡_, refl, sym, subst, ap, _∙_}
 use mathlib.Core.Logic.{_≢_}
 use mathlib.Core.Bool.{true, false}
 use mathlib.Core.List.{List, [], _∷_}
@@ -13,7 +13,7 @@ use Rattle.books.specs.declared.Entry.{Entry}
 use Rattle.books.specs.declared.Free.{Free}
 use Rattle.books.specs.Book.{largestPool}
 use Rattle.books.proofs.Tests.{cond-ind}
-use Rattle.slots.specs.Met.{isMetOf, markAll, unmet}
+use Rattle.slots.specs.Met.{isMetOf, unmarked, markAll, unmet}
 use Rattle.slots.specs.Walk.{idlePath}
 use Rattle.slots.proofs.Seen.{unmet-le}
 use Rattle.slots.proofs.Walks.{pass-unmet, idle-fresh}
@@ -49,6 +49,19 @@ met-none (suc size) (suc room) h = ap (zero ∷_) (met-none size room (omega ari
 nothing-unmet : (size : ℕ) → unmet (nothingMet size) ≤ size
 unfolding nothingMet
 nothing-unmet size = omega (arith, unmet-le (nothingMet size), length-replicate size zero)
+
+cleared : (size : ℕ) → unmarked (nothingMet size) ≡ nothingMet size
+unfolding nothingMet
+cleared zero = refl
+cleared (suc size) = refl
+
+-- in the record of a pool there is a place for the null slot, and to clear it changes nothing
+pub nothing-place : (size : ℕ) {met : List ℕ} → met ≡ nothingMet size → 0 < size → 0 < length met
+unfolding nothingMet
+nothing-place size e h = omega (arith, ap length e, length-replicate size zero)
+
+pub nothing-again : (size : ℕ) {met : List ℕ} → met ≡ nothingMet size → unmarked met ≡ nothingMet size
+nothing-again size e = ap unmarked e ∙ cleared size
 
 module _ (wanted lists : ℕ) (links : List ℕ) where
   gather-live : (list : ℕ) (es : List Entry) (met : List ℕ) (g : Gathered)

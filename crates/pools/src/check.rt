@@ -296,6 +296,8 @@ fn find_over(links: &[u16], values: &[u64], met: &mut [u8], book: Book, wanted: 
     if !null_slot_zero(links, values) {
         return faulty(10, 0, 0);
     }
+    // The null slot is not met. It is said here, so that the compiler does not ask again before each walk.
+    met[0] = 0;
     let entries = book.entries;
     let free = book.free;
     let g = gather(links, met, book.lists, entries, wanted);

@@ -15,7 +15,8 @@ use Rattle.books.proofs.Tests.{and-both, both-and, not-both}
 use Rattle.lists.specs.declared.End.{End}
 use Rattle.pools.specs.Sound.{Shape, chainAt, lacks, SoundBook}
 use Rattle.pools.specs.Size.{SizesFit, sizesFit}
-use Rattle.shares.specs.Numbers.{Test, test, firstThat, Condition, condition, Given}
+use Rattle.shares.specs.Numbers.{Test, test, firstThat, Condition, condition, numbersOf, Given}
+use Rattle.shares.specs.Setup.{setupConditions}
 use Rattle.pools.specs.Check.{checkFound}
 use Rattle.shares.specs.declared.Length.{Length}
 use Rattle.shares.specs.Calls.{Called, ReadLeft, OfShape, checkTests, checkConditions, foundOf, listTests, listConditions, pushTests, pushConditions, popTests, popConditions, readTests, readConditions, checkCall, lengthCall, pushCall, popCall, clearCall, readCall}
@@ -161,3 +162,13 @@ module _ (links values : List ℕ) (b : AnyBook) where
 
     pub read-given : (end : End) (buffer : List ℕ) (at : ℕ) → Given (readConditions links values b l (length buffer) at) (readCall links values b l end buffer at .answer .refusal .number)
     read-given end buffer at = subst (Given (readConditions links values b l (length buffer) at)) (sym (read-number end buffer at)) (given (read-matches (length buffer) at))
+
+-- 01: "Tests run in the order 1 to 8". Which numbers a call can give besides 0, in the order in which their conditions are asked
+module _ (links values : List ℕ) (b : AnyBook) (l room at : ℕ) (lists : ℕ) (shares limits : List ℕ) where
+  pub numbers-in-order : (numbersOf (setupConditions links values lists shares limits) ≡ 1 ∷ 2 ∷ [])
+      × (numbersOf (checkConditions links values b) ≡ 1 ∷ 3 ∷ [])
+      × (numbersOf (listConditions links values b l) ≡ 1 ∷ 3 ∷ 4 ∷ [])
+      × (numbersOf (pushConditions links values b l) ≡ 1 ∷ 3 ∷ 4 ∷ 6 ∷ 7 ∷ [])
+      × (numbersOf (popConditions links values b l) ≡ 1 ∷ 3 ∷ 4 ∷ 5 ∷ [])
+      × (numbersOf (readConditions links values b l room at) ≡ 1 ∷ 3 ∷ 4 ∷ 8 ∷ [])
+  numbers-in-order = (refl, refl, refl, refl, refl, refl)

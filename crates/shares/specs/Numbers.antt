@@ -29,6 +29,11 @@ pub record Condition : Type 1 where
 abbrev pub condition : ℕ → Type 0 → Condition
 condition number holds = record { number = number; holds = holds }
 
+-- in which order the numbers stand
+abbrev pub numbersOf : List Condition → List ℕ
+numbersOf [] = []
+numbersOf (c ∷ cs) = c .number ∷ numbersOf cs
+
 -- k is given: condition k holds and no earlier one does, or k is 0 and none holds
 pub data Given : List Condition → ℕ → Type 1 where
   done : Given [] 0

@@ -172,7 +172,7 @@ module _ {onward : ℕ → ℕ → ℕ} {links start : List ℕ} {head : ℕ} {p
   pub guarded-back : unmarked real ≡ markAll start passed
   guarded-back = ap unmarked (g .guard) ∙ unmark-mark (g .met) (g .unseen) ∙ g .going .marked
 
-  -- then a slot that the walk stopped at is not met if it is the null
+  -- then a slot that the walk stopped at is not met exactly if it is the null
   pub guarded-null : (slot < length links → isMetOf real slot ≡ true) → not (isMetOf (unmarked real) slot) ≡ eqb slot nullSlot
   guarded-null m = ap (λ l. not (isMetOf l slot)) (ap unmarked (g .guard) ∙ unmark-mark (g .met) (g .unseen)) ∙ go (ℕ-discrete slot nullSlot) (decLt slot (length links))
     where

@@ -80,7 +80,7 @@ pub record Lowest (values xs : List ℕ) (low : ℕ) : Type 0 where
   pub notWiped : cell values low ≢ wipeWord
   pub lowest : (y : ℕ) → 0 < count y xs → cell values y ≢ wipeWord → low ≤ y
 
--- the walk along the idle chain, where each link has its value
+-- the walk along the idle chain, where the two slices are of one length
 unfoldable pub idlePath : List ℕ → List ℕ → List ℕ → Free → Path
 idlePath links values met free = cond (eqb (length links) (length values)) (walkFrom idleOnward links met (free .head)) noPath
 

@@ -20,7 +20,8 @@ pub struct IdleWalk {
 
 // The slots of the idle chain are passed and marked. A slot of N or more, or one that was met, ends the walk before it is passed.
 // The null slot is marked while the walk goes, so that one test sees both a slot that was met and the chain's end.
-// Refused, and nothing changes, where a link has no value or the record is not walkable.
+// Refused, and nothing changes, where the two slices differ in length or the record is not walkable.
+// A slot is kept as an index, widened when it is read, as in `walk_live`.
 pub fn walk_idle(links: &[u16], values: &[u64], met: &mut [u8], free: Free) -> IdleWalk
     ensures { λ r. ⌜ IdleWalked (now (links .entry)) (now (values .entry)) (now (met .entry)) free r (now (met .exit)) ⌝ }
 {
@@ -56,7 +57,8 @@ fn refused() -> IdleWalk
     }
 }
 
-// The walk stopped at `slot`. The null slot's mark is taken away: where the slot is not met then, it was the null.
+// The walk stopped at `slot`, after `many` slots. The null slot's mark is taken away: where the slot is not met then, it was the null.
+// It is told by its mark and not by its number because the loop is shorter so.
 // `unlike` has a bit wherever a value that was passed differs from the wipe word; only then is the lowest such slot looked for.
 fn ended(
     links: &[u16],

@@ -49,7 +49,7 @@ pub fn walk_live(links: &[u16], met: &mut [u8], list: Entry) -> LiveWalk
     ended(met, list, slot, last, length)
 }
 
-// The walk stopped at `slot`, after `last`. The null slot's mark is taken away.
+// The walk stopped at `slot`, after `many` slots, of which `last` was the last. The null slot's mark is taken away.
 fn ended(met: &mut [u8], list: Entry, slot: usize, last: usize, many: usize) -> LiveWalk
     requires { ⌜ 0 < length (now met) ⌝ }
     ensures { λ r. ⌜ (now (met .exit) ≡ unmarked (now (met .entry))) × (r ≡ record { ok = eqb slot nullSlot && eqb last (list .tail); length = many }) ⌝ }
