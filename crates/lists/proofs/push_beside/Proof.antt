@@ -1,18 +1,39 @@
 -- `lists::push_beside`: what it answers and stores follows from what `take` said and from the test of the end slot.
 use mathlib.Core.Path.{_≡_, sym, ap, _∙_}
+use mathlib.Core.Bool.{Bool, true, false}
+use mathlib.Core.List.{List}
 use Prim.Native.Nat.{ℕ}
 use lib.ListN.{length-set}
 use denote.Ref.{now}
 use borrow.Author.Needs.{needs}
 use borrow.Author.Tests.{not-true, not-false}
+use Rattle.books.specs.declared.Free.{Free}
+use Rattle.books.specs.declared.Entry.{Entry}
+use Rattle.books.specs.Outcome.{outcome}
 use Rattle.slots.specs.declared.Taken.the-variants.{Slot}
 use Rattle.slots.specs.Slot.{InPool}
 use Rattle.slots.specs.Model.{saidBy, takeOf}
 use Rattle.slots.proofs.Laws.{take-slot}
-use Rattle.lists.specs.Model.{pushBesideOf}
+use Rattle.lists.specs.declared.End.{End}
+use Rattle.lists.specs.declared.Pushed.{Pushed}
+use Rattle.lists.specs.Model.{nearOf, withNear, isBeside, refusedPush, donePush, pushedBeside, pushBesideOf}
 use Rattle.lists.proofs.Beside.{beside-iff}
 use Rattle.lists.proofs.push_beside.Statement.{statement}
 use Rattle.lists.proofs.push_beside.Tie as tie
+
+-- what a push leaves once a slot was taken, in plain names: to rewrite among the paths of a need takes far longer
+module _ (end : End) (links values : List ℕ) (list : Entry) (free : Free) (value slot : ℕ) (rest : Free) (k : saidBy free (Slot slot rest) ≡ takeOf links values free) (near : ℕ) (e : near ≡ nearOf end list) where
+  not-beside : {r : Pushed} {t : Bool} → t ≡ isBeside links values near slot → t ≡ false → r ≡ refusedPush list free → outcome r links values ≡ pushBesideOf end links values list free value
+  unfolding pushBesideOf
+  not-beside q f d = rw (d, ← k, ← e, ← q, f)
+
+  end-joined : {r : Pushed} {left : Entry}
+      → isBeside links values near slot ≡ true
+      → left ≡ withNear end slot list
+      → r ≡ donePush left rest
+      → outcome r (pushedBeside end links values list free value near slot rest .links) (pushedBeside end links values list free value near slot rest .values) ≡ pushBesideOf end links values list free value
+  unfolding pushBesideOf
+  end-joined q m d = rw (d, m, ← k, ← e, q)
 
 abbrev start : tie.After-known-told → tie.Start
 start c = c .before .before .before .before .before .before .before .before
@@ -32,8 +53,11 @@ abbrev told : tie.Else1 → tie.After-known-told
 told c = c .before .before .before .before .before
 
 -- past the test the end slot is one too
+is-beside : (c : tie.Else1) → isBeside (now (start (told c) .args .links)) (now (start (told c) .args .values)) (c .before .before .before .before .near-of .result) (slot (told c)) ≡ true
+is-beside c = sym (c .before .is-beside .ensures) ∙ not-false (c .before .is-beside .result) (c .if1 .left)
+
 near : (c : tie.Else1) → InPool (now (start (told c) .args .links)) (now (start (told c) .args .values)) (c .before .before .before .before .near-of .result)
-near c = beside-iff _ _ _ (slot (told c)) .0 (sym (c .before .is-beside .ensures) ∙ not-false (c .before .is-beside .result) (c .if1 .left)) .1
+near c = beside-iff _ _ _ (slot (told c)) .0 (is-beside c) .1
 
 returns : tie.Need-returns
 unfolding pushBesideOf
@@ -44,27 +68,16 @@ returns c =
     )
 
 returns-2 : tie.Need-returns-2
-unfolding pushBesideOf
 returns-2 c =
-    simp (
-      c .refused-push2 .ensures,
-      ← taken (c .before .before .before .before .before .before),
-      ← c .before .before .before .before .before .near-of .ensures,
-      ← c .before .before .is-beside .ensures,
-      not-true (c .before .before .is-beside .result) (c .before .if1 .taken),
-    )
+    not-beside _ _ _ _ _ _ _ _ (taken (c .before .before .before .before .before .before)) _ (c .before .before .before .before .before .near-of .ensures)
+    (c .before .before .is-beside .ensures)
+    (not-true (c .before .before .is-beside .result) (c .before .if1 .taken))
+    (c .refused-push2 .ensures)
 
 returns-3 : tie.Need-returns-3
-unfolding pushBesideOf
 returns-3 c =
-    simp (
-      c .done-push .ensures,
-      c .before .with-near .ensures,
-      ← taken (c .before .before .before .before .before .before .before .before),
-      ← c .before .before .before .before .before .before .before .near-of .ensures,
-      ← c .before .before .before .before .is-beside .ensures,
-      not-false (c .before .before .before .before .is-beside .result) (c .before .before .before .if1 .left),
-    )
+    let past = c .before .before .before in
+    end-joined _ _ _ _ _ _ _ _ (taken (told past)) _ (past .before .before .before .before .near-of .ensures) (is-beside past) (c .before .with-near .ensures) (c .done-push .ensures)
 
 pub push-beside-spec : {M : Type 1} → statement M
 push-beside-spec =
