@@ -134,6 +134,11 @@ pub guarded-from : {onward : ℕ → ℕ → ℕ} {links start start′ : List �
     → start ≡ start′ → head ≡ head′ → Guarded onward links start head passed real slot many → Guarded onward links start′ head′ passed real slot many
 guarded-from {onward} {links} {passed = passed} {real = real} {slot = slot} {many = many} s e g = rw (← s, ← e) g
 
+-- and with a count that is the same
+pub guarded-counted : {onward : ℕ → ℕ → ℕ} {links start : List ℕ} {head : ℕ} {passed real : List ℕ} {slot many many′ : ℕ}
+    → many ≡ many′ → Guarded onward links start head passed real slot many → Guarded onward links start head passed real slot many′
+guarded-counted e g = rw (← e) g
+
 module _ {onward : ℕ → ℕ → ℕ} {links start : List ℕ} {head : ℕ} {passed real : List ℕ} {slot many : ℕ} (g : Guarded onward links start head passed real slot many) where
   -- a slot that is not met there is a slot, and was not met
   fresh : isMetOf real slot ≡ false → (slot ≢ nullSlot) × (isMetOf (g .met) slot ≡ false)
@@ -142,11 +147,20 @@ module _ {onward : ℕ → ℕ → ℕ} {links start : List ℕ} {head : ℕ} {p
       let n : slot ≢ nullSlot = λ e. not-both _ (mark-met (g .met) nullSlot) (ap (isMetOf (markOf (g .met) nullSlot)) (sym e) ∙ u) in
       (n, sym (mark-other (g .met) nullSlot slot n) ∙ u)
 
-  pub guarded-on : {real′ : List ℕ} {slot′ : ℕ} → slot < length links → isMetOf real slot ≡ false
+  -- the record keeps its length
+  pub guarded-length : length real ≡ length links
+  guarded-length = ap length (g .guard) ∙ marked-length (g .met) nullSlot ∙ sym (g .size)
+
+  -- a slot that is not met has a link and a place in the record
+  pub guarded-place : isMetOf real slot ≡ false → (slot < length links) × (slot < length real)
+  guarded-place m = let h = met-place real slot m in (omega (arith, h, guarded-length), h)
+
+  pub guarded-on : {real′ : List ℕ} {slot′ : ℕ} → isMetOf real slot ≡ false
       → real′ ≡ markOf real slot → slot′ ≡ next onward links (lastOr nullSlot passed) slot
       → Guarded onward links start head (passed ++ slot ∷ []) real′ slot′ (many + 1)
-  guarded-on h m d e =
+  guarded-on m d e =
       let (n, u) = fresh m in
+      let h = guarded-place m .0 in
       record {
         met = markOf (g .met) slot;
         going = going-on (g .going) n h u refl e;
@@ -160,12 +174,12 @@ module _ {onward : ℕ → ℕ → ℕ} {links start : List ℕ} {head : ℕ} {p
   some = met-place (g .met) nullSlot (g .unseen)
 
   -- where it stops, it came to the end if it stopped at the null
-  pub guarded-stops : (slot < length links → isMetOf real slot ≡ true) → walkFrom onward links start head ≡ record { ok = eqb slot nullSlot; slots = passed }
+  pub guarded-stops : isMetOf real slot ≡ true → walkFrom onward links start head ≡ record { ok = eqb slot nullSlot; slots = passed }
   guarded-stops m = go (ℕ-discrete slot nullSlot) (decLt slot (length links))
     where
       go : Dec (slot ≡ nullSlot) → Dec (slot < length links) → walkFrom onward links start head ≡ record { ok = eqb slot nullSlot; slots = passed }
       go (yes e) d = going-end (g .going) e ∙ rw (eq-eqb slot nullSlot e)
-      go (no n) (yes h) = going-met (g .going) n h (sym (mark-other (g .met) nullSlot slot n) ∙ sym (ap (λ l. isMetOf l slot) (g .guard)) ∙ m h) ∙ rw (ne-eqb slot nullSlot n)
+      go (no n) (yes h) = going-met (g .going) n h (sym (mark-other (g .met) nullSlot slot n) ∙ sym (ap (λ l. isMetOf l slot) (g .guard)) ∙ m) ∙ rw (ne-eqb slot nullSlot n)
       go (no n) (no h) = going-past (g .going) n (omega arith) ∙ rw (ne-eqb slot nullSlot n)
 
   -- the null slot's mark is taken away, and what is left are the slots passed
@@ -173,18 +187,15 @@ module _ {onward : ℕ → ℕ → ℕ} {links start : List ℕ} {head : ℕ} {p
   guarded-back = ap unmarked (g .guard) ∙ unmark-mark (g .met) (g .unseen) ∙ g .going .marked
 
   -- then a slot that the walk stopped at is not met exactly if it is the null
-  pub guarded-null : (slot < length links → isMetOf real slot ≡ true) → not (isMetOf (unmarked real) slot) ≡ eqb slot nullSlot
+  pub guarded-null : isMetOf real slot ≡ true → not (isMetOf (unmarked real) slot) ≡ eqb slot nullSlot
   guarded-null m = ap (λ l. not (isMetOf l slot)) (ap unmarked (g .guard) ∙ unmark-mark (g .met) (g .unseen)) ∙ go (ℕ-discrete slot nullSlot) (decLt slot (length links))
     where
       go : Dec (slot ≡ nullSlot) → Dec (slot < length links) → not (isMetOf (g .met) slot) ≡ eqb slot nullSlot
       go (yes e) d = rw (e, g .unseen)
-      go (no n) (yes h) = rw (ne-eqb slot nullSlot n, ← (mark-other (g .met) nullSlot slot n), ← (g .guard), m h)
+      go (no n) (yes h) = rw (ne-eqb slot nullSlot n, ← (mark-other (g .met) nullSlot slot n), ← (g .guard), m)
       go (no n) (no h) = rw (ne-eqb slot nullSlot n, met-past (g .met) slot (omega (arith, g .size)))
 
-  -- the record keeps its length, and there are places enough to count by
-  pub guarded-length : length real ≡ length links
-  guarded-length = ap length (g .guard) ∙ marked-length (g .met) nullSlot ∙ sym (g .size)
-
+  -- there are places enough to count by
   pub guarded-some : 0 < length real
   guarded-some = omega (arith, some, guarded-length, g .size)
 
@@ -212,7 +223,7 @@ idle-is links values met free s = rw (eq-eqb _ _ s)
 -- where the walk along the idle chain ends, what was gathered on the way is the answer
 pub idle-walked : {links values met : List ℕ} {free : Free} {passed real met′ : List ℕ} {slot many : ℕ} {r : IdleWalk}
     → length links ≡ length values → Guarded idleOnward links met (free .head) passed real slot many → idleFirst links many (free .head) ≡ passed
-    → (slot < length links → isMetOf real slot ≡ true) → met′ ≡ unmarked real
+    → isMetOf real slot ≡ true → met′ ≡ unmarked real
     → r ≡ record { ok = not (isMetOf (unmarked real) slot); length = many; unwiped = unwipedFrom values (idleFirst links many (free .head)) nullSlot }
     → IdleWalked links values met free r met′
 idle-walked {links} {values} {met} {free} s g f m d e =

@@ -1,5 +1,5 @@
 -- Laws of the record of slots met: marking a slot that was not met adds it to the slots seen, and leaves one fewer to meet.
-use mathlib.Core.Path.{_≡_, refl, ap, _∙_}
+use mathlib.Core.Path.{_≡_, refl, ap}
 use mathlib.Core.Logic.{_≢_}
 use mathlib.Core.Bool.{Bool, true, false, cond, not}
 use mathlib.Core.List.{List, [], _∷_}
@@ -10,7 +10,6 @@ use native.Mathlib.Omega.{arith}
 use lib.Dec.{eqb, eqb·suc-zero}
 use lib.ListN.{length, getD, set, length-set, replicate, getD-replicate, List·getD-eq-default}
 use lib.Seq.{getD-set-same, getD-set-other, set-comm}
-use borrow.Author.Tests.{ne-eqb}
 use Rattle.books.specs.Book.{nullSlot}
 use Rattle.books.proofs.Tests.{not-both}
 use Rattle.chains.specs.Count.{hit}
@@ -73,15 +72,6 @@ pub read-any : (cells : List ℕ) (i a b : ℕ) → i < length cells → getD ce
 read-any [] i a b h = absurd (not-suc-le-zero h)
 read-any (x ∷ xs) zero a b h = refl
 read-any (x ∷ xs) (suc i) a b h = read-any xs i a b (le-of-suc-le-suc h)
-
--- a place that is read tells whether its slot was met
-pub read-met : (met : List ℕ) (x : ℕ) → x < length met → getD met x 0 ≢ 0 → isMetOf met x ≡ true
-unfolding isMetOf
-read-met met x h n = ap (λ v. not (eqb v 0)) (read-any met x 1 0 h) ∙ rw (ne-eqb (getD met x 0) 0 n)
-
-pub read-unmet : (met : List ℕ) (x : ℕ) → x < length met → getD met x 0 ≡ 0 → isMetOf met x ≡ false
-unfolding isMetOf
-read-unmet met x h e = ap (λ v. not (eqb v 0)) (read-any met x 1 0 h ∙ e)
 
 -- marking, on any record: the slot is met then, and every other is as it was
 pub mark-met : (met : List ℕ) (x : ℕ) → isMetOf (markOf met x) x ≡ true

@@ -19,7 +19,7 @@ pub struct IdleWalk {
 }
 
 // The slots of the idle chain are passed and marked. A slot of N or more, or one that was met, ends the walk before it is passed.
-// The null slot is marked while the walk goes, so that one test sees both a slot that was met and the chain's end.
+// The null slot is marked while the walk goes, so that one test sees all three: the record has no place for a slot of N or more.
 // Refused, and nothing changes, where the two slices differ in length or the record is not walkable.
 // A slot is kept as an index, widened when it is read, as in `walk_live`.
 pub fn walk_idle(links: &[u16], values: &[u64], met: &mut [u8], free: Free) -> IdleWalk
@@ -35,10 +35,7 @@ pub fn walk_idle(links: &[u16], values: &[u64], met: &mut [u8], free: Free) -> I
     let mut slot = books::wide(free.head);
     let mut length: usize = 0;
     let mut unlike: u64 = 0;
-    while slot < links.len() {
-        if met[slot] != 0 {
-            return ended(links, values, met, free, slot, length, unlike);
-        }
+    while !crate::met::is_met(met, slot) {
         met[slot] = 1;
         unlike = unlike | (values[slot] ^ Book::WIPE);
         length += 1;

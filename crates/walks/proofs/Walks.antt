@@ -22,7 +22,7 @@ use Rattle.walks.specs.Walk.{liveOnward, livePath, LiveWalked}
 
 -- where the walk along a list's chain ends, what was gathered on the way is the answer
 pub live-walked : {links met : List ℕ} {list : Entry} {passed real met′ : List ℕ} {slot last many : ℕ} {r : LiveWalk}
-    → Guarded liveOnward links met (list .head) passed real slot many → last ≡ lastOr nullSlot passed → (slot < length links → isMetOf real slot ≡ true)
+    → Guarded liveOnward links met (list .head) passed real slot many → last ≡ lastOr nullSlot passed → isMetOf real slot ≡ true
     → met′ ≡ unmarked real → r ≡ record { ok = eqb slot nullSlot && eqb last (list .tail); length = many } → LiveWalked links met list r met′
 live-walked {met = met} {list = list} {slot = slot} g l m d e =
     let p = guarded-stops g m in

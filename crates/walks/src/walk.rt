@@ -9,9 +9,10 @@ ghost use Prim.Native.Nat.{_<_};
 ghost use lib.Dec.{eqb};
 ghost use lib.ListN.{length};
 ghost use Rattle.books.specs.Book.{nullSlot};
-ghost use Rattle.slots.specs.Met.{isMetOf, unmarked};
+ghost use Rattle.chains.specs.Chain.{cell};
+ghost use Rattle.slots.specs.Met.{isMetOf, markOf, unmarked};
 ghost use Rattle.slots.specs.Walk.{IdleWalked};
-ghost use Rattle.walks.specs.Walk.{LiveWalked};
+ghost use Rattle.walks.specs.Walk.{liveOnward, LiveWalked};
 
 // Whether the walk came to its end at the list's tail, and how many slots it passed.
 pub struct LiveWalk {
@@ -20,8 +21,9 @@ pub struct LiveWalk {
 }
 
 // The slots of the list are passed and marked. A slot of N or more, or one that was met, ends the walk before it is passed.
-// The null slot is marked while the walk goes, so that one test sees both a slot that was met and the list's end.
-// A slot is kept as an index here, widened when it is read, since this loop is most of what a call costs; 0 is the null.
+// The null slot is marked while the walk goes, so that one test sees all three: the record has no place for a slot of N or more.
+// Two slots are passed in a turn, since the slot and the one before it then change places and nothing is moved; this loop is most of
+// what a call costs. For the same reason a slot is kept as an index, widened when it is read.
 // Refused, and nothing changes, where the record is not walkable.
 pub fn walk_live(links: &[u16], met: &mut [u8], list: Entry) -> LiveWalk
     ensures { λ r. ⌜ LiveWalked (now (links .entry)) (now (met .entry)) list r (now (met .exit)) ⌝ }
@@ -36,17 +38,25 @@ pub fn walk_live(links: &[u16], met: &mut [u8], list: Entry) -> LiveWalk
     let mut slot = books::wide(list.head);
     let mut last: usize = 0;
     let mut length: usize = 0;
-    while slot < links.len() {
-        if met[slot] != 0 {
-            return ended(met, list, slot, last, length);
+    while !slots::met::is_met(met, slot) {
+        let next = pass(links, met, slot, last);
+        if slots::met::is_met(met, next) {
+            return ended(met, list, next, slot, length + 1);
         }
-        met[slot] = 1;
-        let next = books::wide(links[slot]) ^ last;
-        last = slot;
-        slot = next;
-        length += 1;
+        last = next;
+        slot = pass(links, met, next, slot);
+        length += 2;
     }
     ended(met, list, slot, last, length)
+}
+
+// A slot is passed: it is marked, and the one after it is its link XORed with the one before it.
+fn pass(links: &[u16], met: &mut [u8], slot: usize, before: usize) -> usize
+    requires { ⌜ (slot < length (now links)) × (slot < length (now met)) ⌝ }
+    ensures { λ r. ⌜ (r ≡ liveOnward before (cell (now (links .entry)) slot)) × (now (met .exit) ≡ markOf (now (met .entry)) slot) ⌝ }
+{
+    met[slot] = 1;
+    books::wide(links[slot]) ^ before
 }
 
 // The walk stopped at `slot`, after `many` slots, of which `last` was the last. The null slot's mark is taken away.

@@ -13,9 +13,9 @@ use Rattle.books.specs.Book.{nullSlot}
 use Rattle.chains.specs.Chain.{cell}
 use Rattle.slots.specs.Met.{isMetOf, markOf, unmarked, unmet}
 use Rattle.slots.specs.Walk.{walkable, idleOnward, idleFirst, unwipedFrom}
-use Rattle.slots.proofs.Seen.{unmet-mark, met-place, unmark-mark, read-met, read-unmet}
+use Rattle.slots.proofs.Seen.{unmet-mark, met-place, unmark-mark}
 use Rattle.slots.proofs.Unwiped.{unlike-on}
-use Rattle.slots.proofs.Going.{Guarded, guarded-start, guarded-from, guarded-on, guarded-length, guarded-some, guarded-room, walkable-both, Firsts, firsts-start, firsts-on, idle-walked, idle-unvalued, idle-unwalkable}
+use Rattle.slots.proofs.Going.{Guarded, guarded-start, guarded-from, guarded-on, guarded-place, guarded-length, guarded-some, guarded-room, walkable-both, Firsts, firsts-start, firsts-on, idle-walked, idle-unvalued, idle-unwalkable}
 use Rattle.slots.proofs.walk.walk_idle.Statement.{statement}
 use Rattle.slots.proofs.walk.walk_idle.Tie as tie
 use Rattle.slots.proofs.walk.walk_idle.Reads as reads
@@ -86,25 +86,26 @@ loop-holds c =
     )
 
 -- the slot is passed
-module _ (c : tie.Else3 Inv-loop μ-loop) where
+module _ (c : tie.Then3 Inv-loop μ-loop) where
   abbrev here : tie.At-loop Inv-loop μ-loop
   here = c .before .before .before
 
-  placed : here .loop .slot < length (here .loop .met)
-  placed = omega (arith, guarded-length (goes here), c .before .before .loop-test .taken)
-
   fresh : isMetOf (here .loop .met) (here .loop .slot) ≡ false
-  fresh = read-unmet (here .loop .met) (here .loop .slot) placed (c .if3 .left)
+  fresh = sym (c .before .is-met .ensures) ∙ not-true _ (c .if3 .taken)
 
-stopped : (c : tie.Then3 Inv-loop μ-loop) → isMetOf (c .before .before .before .loop .met) (c .before .before .before .loop .slot) ≡ true
-stopped c =
-    let at = c .before .before .before in
-    read-met (at .loop .met) (at .loop .slot) (omega (arith, guarded-length (goes at), c .before .before .loop-test .taken)) (c .if3 .taken)
+  linked : here .loop .slot < length (now (start here .args .links))
+  linked = guarded-place (goes here) fresh .0
+
+  held : here .loop .slot < length (now (start here .args .values))
+  held = omega (arith, linked, valued here)
+
+-- the walk stops before it
+stopped : (c : tie.Else3 Inv-loop μ-loop) → isMetOf (c .before .before .before .loop .met) (c .before .before .before .loop .slot) ≡ true
+stopped c = sym (c .before .is-met .ensures) ∙ not-false _ (c .if3 .left)
 
 loop-less : tie.Need-loop-less Inv-loop μ-loop
 unfolding markOf
-loop-less c =
-    let e = c .before .before .before in omega (arith, unmet-mark (here e .loop .met) (here e .loop .slot) (fresh e))
+loop-less c = let e = c .before .before .before in omega (arith, unmet-mark (here e .loop .met) (here e .loop .slot) (fresh e))
 
 loop-again : tie.Need-loop-again Inv-loop μ-loop
 unfolding markOf
@@ -112,7 +113,7 @@ loop-again c =
     let e = c .before .before .before in
     let at = here e in (
       passed at ++ at .loop .slot ∷ [],
-      guarded-on (at .loop .inv .1) (e .before .before .loop-test .taken) (fresh e) refl (c .wide2 .ensures .0),
+      guarded-on (at .loop .inv .1) (fresh e) refl (c .wide2 .ensures .0),
       firsts-on (now (start at .args .links)) (at .before .wide .result) (passed at) (at .loop .slot) (at .loop .length) (at .loop .inv .2) (c .wide2 .ensures .0),
       unlike-on (now (start at .args .values)) (passed at) (at .loop .slot) (at .loop .unlike) (at .loop .inv .3),
     )
@@ -121,12 +122,7 @@ returns-3 : tie.Need-returns-3 Inv-loop μ-loop
 returns-3 c =
     let e = c .before .before .before .before in
     let at = e .before .before .before in
-    idle-walked (valued at) (goes at) (firsts at) (λ h. stopped e) (c .before .before .ended .ensures .0) (c .before .before .ended .ensures .1)
-
-returns-4 : tie.Need-returns-4 Inv-loop μ-loop
-returns-4 c =
-    let at = c .before .before .before .before .before in
-    idle-walked (valued at) (goes at) (firsts at) (λ h. absurd (omega (arith, c .before .before .before .before .loop-test .left))) (c .before .before .ended2 .ensures .0) (c .before .before .ended2 .ensures .1)
+    idle-walked (valued at) (goes at) (firsts at) (stopped e) (c .before .before .ended .ensures .0) (c .before .before .ended .ensures .1)
 
 pub walk-idle-spec : {M : Type 1} → statement M
 walk-idle-spec =
@@ -143,19 +139,16 @@ walk-idle-spec =
     first-place
     (λ c κs. search needs)
     loop-holds
-    (λ c. omega (arith, guarded-length (goes (c .before .before)), c .before .loop-test .taken))
-    (λ c κs. asked (c .before .before .before .before))
-    (λ c. same (c .before .before .before .before .before .before .before) (c .before .before .ended .ensures .0))
-    returns-3
-    (λ c. placed c)
-    (λ c. search needs)
-    (λ c. omega (arith, valued (c .before .before .before .before), c .before .before .before .loop-test .taken))
-    (λ c. omega (arith, guarded-room (goes (c .before .before .before .before)) (fresh (c .before))))
-    (λ c. search needs)
-    (λ c. search needs)
+    (λ c κs. search needs)
+    (λ c. guarded-place (goes (here c)) (fresh c) .1)
+    (λ c. let h = held c in search needs)
+    (λ c. held (c .before))
+    (λ c. omega (arith, guarded-room (goes (here (c .before))) (fresh (c .before))))
+    (λ c. let h = linked (c .before) in search needs)
+    (λ c. linked (c .before .before))
     (λ c κs. search needs)
     loop-less
     loop-again
-    (λ c κs. asked (c .before .before))
-    (λ c. same (c .before .before .before .before .before) (c .before .before .ended2 .ensures .0))
-    returns-4)
+    (λ c κs. asked (c .before .before .before .before))
+    (λ c. same (c .before .before .before .before .before .before .before) (c .before .before .ended .ensures .0))
+    returns-3)

@@ -2,7 +2,7 @@
 use mathlib.Core.Path.{_≡_, refl, sym, ap, _∙_}
 use mathlib.Core.Bool.{true, false}
 use mathlib.Core.List.{List, [], _∷_, _++_}
-use Prim.Native.Nat.{ℕ, _<_}
+use Prim.Native.Nat.{ℕ, _+_, _<_}
 use native.Mathlib.Omega.{arith}
 use lib.ListN.{length, length-set}
 use denote.Ref.{now}
@@ -13,8 +13,8 @@ use Rattle.chains.specs.Chain.{cell, lastOr}
 use Rattle.chains.proofs.Chain.{last-append}
 use Rattle.slots.specs.Met.{isMetOf, markOf, unmarked, unmet}
 use Rattle.slots.specs.Walk.{walkable}
-use Rattle.slots.proofs.Seen.{unmet-mark, met-place, unmark-mark, read-met, read-unmet}
-use Rattle.slots.proofs.Going.{Guarded, guarded-start, guarded-from, guarded-on, guarded-length, guarded-some, guarded-room, walkable-both}
+use Rattle.slots.proofs.Seen.{unmet-mark, met-place, unmark-mark}
+use Rattle.slots.proofs.Going.{Guarded, guarded-start, guarded-from, guarded-counted, guarded-on, guarded-place, guarded-length, guarded-some, guarded-room, walkable-both}
 use Rattle.walks.specs.Walk.{liveOnward}
 use Rattle.walks.proofs.Walks.{live-walked, live-unwalkable}
 use Rattle.walks.proofs.walk.walk_live.Statement.{statement}
@@ -46,8 +46,9 @@ module _ (c : tie.At-loop Inv-loop μ-loop) where
       guarded-from (unmark-mark (now (start .args .met)) (walkable-both (now (start .args .links)) (now (start .args .met)) walks .1)) (c .before .wide .ensures .0) (c .loop .inv .1)
 
   -- the record has its length again
-  same : {met′ : List ℕ} → met′ ≡ unmarked (c .loop .met) → length met′ ≡ length (now (start .args .met))
-  same e = ap length e ∙ length-set (c .loop .met) 0 0 ∙ guarded-length goes ∙ walkable-both (now (start .args .links)) (now (start .args .met)) walks .0
+  same : {passed real met′ : List ℕ} {slot many : ℕ} → Guarded liveOnward (now (start .args .links)) (now (start .args .met)) (start .args .list .head) passed real slot many
+      → met′ ≡ unmarked real → length met′ ≡ length (now (start .args .met))
+  same {real = real} g e = ap length e ∙ length-set real 0 0 ∙ guarded-length g ∙ walkable-both (now (start .args .links)) (now (start .args .met)) walks .0
 
 -- the null slot has a place
 first-place : tie.Need-slice-write-met Inv-loop μ-loop
@@ -68,47 +69,73 @@ loop-holds c =
     )
 
 -- the slot is passed
-module _ (c : tie.Else2 Inv-loop μ-loop) where
+module _ (c : tie.Then2 Inv-loop μ-loop) where
   abbrev here : tie.At-loop Inv-loop μ-loop
   here = c .before .before .before
 
-  placed : here .loop .slot < length (here .loop .met)
-  placed = omega (arith, guarded-length (goes here), c .before .before .loop-test .taken)
-
   fresh : isMetOf (here .loop .met) (here .loop .slot) ≡ false
-  fresh = read-unmet (here .loop .met) (here .loop .slot) placed (c .if2 .left)
+  fresh = sym (c .before .is-met .ensures) ∙ not-true _ (c .if2 .taken)
 
--- the walk stops before it
-stopped : (c : tie.Then2 Inv-loop μ-loop) → isMetOf (c .before .before .before .loop .met) (c .before .before .before .loop .slot) ≡ true
-stopped c =
-    let at = c .before .before .before in
-    read-met (at .loop .met) (at .loop .slot) (omega (arith, guarded-length (goes at), c .before .before .loop-test .taken)) (c .if2 .taken)
+module _ (c : tie.After-pass Inv-loop μ-loop) where
+  abbrev from : tie.At-loop Inv-loop μ-loop
+  from = here (c .before .before)
 
-loop-less : tie.Need-loop-less Inv-loop μ-loop
-unfolding markOf
-loop-less c = let e = c .before .before in omega (arith, unmet-mark (here e .loop .met) (here e .loop .slot) (fresh e))
+  abbrev more : List ℕ
+  more = from .loop .inv .0 ++ from .loop .slot ∷ []
 
-loop-again : tie.Need-loop-again Inv-loop μ-loop
-unfolding markOf
-loop-again c =
-    let e = c .before .before in
-    let at = here e in (
-      at .loop .inv .0 ++ at .loop .slot ∷ [],
-      guarded-on (at .loop .inv .1) (e .before .before .loop-test .taken) (fresh e) refl
-          (ap (liveOnward (at .loop .last)) (c .wide2 .ensures .0) ∙ ap (λ l. liveOnward l (cell (now (start at .args .links)) (at .loop .slot))) (at .loop .inv .2)),
-      sym (last-append nullSlot (at .loop .inv .0) (at .loop .slot ∷ [])),
-    )
+  ends : from .loop .slot ≡ lastOr nullSlot more
+  ends = sym (last-append nullSlot (from .loop .inv .0) (from .loop .slot ∷ []))
+
+  after : c .pass .result ≡ liveOnward (lastOr nullSlot (from .loop .inv .0)) (cell (now (start from .args .links)) (from .loop .slot))
+  after = c .pass .ensures .0 ∙ ap (λ l. liveOnward l (cell (now (start from .args .links)) (from .loop .slot))) (from .loop .inv .2)
+
+  -- the walk on its way after it
+  one : Guarded liveOnward (now (start from .args .links)) (now (start from .args .met)) (start from .args .list .head) more (c .pass .last .1 .0) (c .pass .result) (from .loop .length + 1)
+  one = guarded-on (goes from) (fresh (c .before .before)) (c .pass .ensures .1) after
+
+-- the slot after it is passed too, or the walk stops before that one
+fresh-next : (c : tie.Else3 Inv-loop μ-loop) → isMetOf (c .before .before .before .before .before .pass .last .1 .0) (c .before .before .before .before .before .pass .result) ≡ false
+fresh-next c = sym (c .before .is-met2 .ensures) ∙ c .if3 .left
+
+stopped-next : (c : tie.Then3 Inv-loop μ-loop) → isMetOf (c .before .before .before .before .before .pass .last .1 .0) (c .before .before .before .before .before .pass .result) ≡ true
+stopped-next c = sym (c .before .is-met2 .ensures) ∙ c .if3 .taken
+
+-- the walk stops before the slot
+stopped : (c : tie.Else2 Inv-loop μ-loop) → isMetOf (c .before .before .before .loop .met) (c .before .before .before .loop .slot) ≡ true
+stopped c = sym (c .before .is-met .ensures) ∙ not-false _ (c .if2 .left)
 
 returns-2 : tie.Need-returns-2 Inv-loop μ-loop
 returns-2 c =
-    let e = c .before .before .before .before in
-    let at = e .before .before .before in
-    live-walked (goes at) (at .loop .inv .2) (λ h. stopped e) (c .before .before .ended .ensures .0) (c .before .before .ended .ensures .1)
+    let p = c .before .before .before .before .before .before .before .before .before in live-walked (one p) (ends p) (stopped-next (c .before .before .before .before)) (c .before .before .ended .ensures .0) (c .before .before .ended .ensures .1)
+
+loop-less : tie.Need-loop-less Inv-loop μ-loop
+loop-less c =
+    let p = c .before .before .before .before .before .before .before .before .before in
+    let at = from p in
+    omega (
+      arith,
+      ap unmet (c .before .before .pass2 .ensures .1),
+      unmet-mark (p .pass .last .1 .0) (p .pass .result) (fresh-next (c .before .before .before .before)),
+      ap unmet (p .pass .ensures .1),
+      unmet-mark (at .loop .met) (at .loop .slot) (fresh (p .before .before)),
+    )
+
+loop-again : tie.Need-loop-again Inv-loop μ-loop
+loop-again c =
+    let p = c .before .before .before .before .before .before .before .before .before in
+    let at = from p in
+    let g = guarded-on (at .loop .inv .1) (fresh (p .before .before)) (p .pass .ensures .1) (after p) in (
+      more p ++ p .pass .result ∷ [],
+      guarded-counted (omega arith)
+          (guarded-on g (fresh-next (c .before .before .before .before)) (c .before .before .pass2 .ensures .1)
+          (c .before .before .pass2 .ensures .0 ∙ ap (λ l. liveOnward l (cell (now (start at .args .links)) (p .pass .result))) (ends p))),
+      sym (last-append nullSlot (more p) (p .pass .result ∷ [])),
+    )
 
 returns-3 : tie.Need-returns-3 Inv-loop μ-loop
 returns-3 c =
-    let at = c .before .before .before .before .before in
-    live-walked (goes at) (at .loop .inv .2) (λ h. absurd (omega (arith, c .before .before .before .before .loop-test .left))) (c .before .before .ended2 .ensures .0) (c .before .before .ended2 .ensures .1)
+    let at = c .before .before .before .before .before .before .before in
+    live-walked (goes at) (at .loop .inv .2) (stopped (c .before .before .before .before)) (c .before .before .ended2 .ensures .0) (c .before .before .ended2 .ensures .1)
 
 pub walk-live-spec : {M : Type 1} → statement M
 walk-live-spec =
@@ -122,17 +149,17 @@ walk-live-spec =
     first-place
     (λ c κs. search needs)
     loop-holds
-    (λ c. omega (arith, guarded-length (goes (c .before .before)), c .before .loop-test .taken))
-    (λ c κs. guarded-some (goes (c .before .before .before .before)))
-    (λ c. same (c .before .before .before .before .before .before .before) (c .before .before .ended .ensures .0))
-    returns-2
-    (λ c. placed c)
-    (λ c. search needs)
-    (λ c. search needs)
     (λ c κs. search needs)
-    (λ c. omega (arith, guarded-room (goes (c .before .before .before .before .before)) (fresh (c .before .before))))
+    (λ c κs. guarded-place (goes (here (c .before))) (fresh (c .before)))
+    (λ c κs. search needs)
+    (λ c. omega (arith, guarded-room (goes (from (c .before .before .before .before .before .before))) (fresh (c .before .before .before .before .before .before .before .before))))
+    (λ c κs. guarded-some (one (c .before .before .before .before .before .before)))
+    (λ c. same (from (c .before .before .before .before .before .before .before .before .before)) (one (c .before .before .before .before .before .before .before .before .before)) (c .before .before .ended .ensures .0))
+    returns-2
+    (λ c κs. guarded-place (one (c .before .before .before .before .before .before)) (fresh-next (c .before)))
+    (λ c. omega (arith, guarded-room (one (c .before .before .before .before .before .before .before .before .before)) (fresh-next (c .before .before .before .before))))
     loop-less
     loop-again
-    (λ c κs. guarded-some (goes (c .before .before)))
-    (λ c. same (c .before .before .before .before .before) (c .before .before .ended2 .ensures .0))
+    (λ c κs. guarded-some (goes (c .before .before .before .before)))
+    (λ c. same (c .before .before .before .before .before .before .before) (goes (c .before .before .before .before .before .before .before)) (c .before .before .ended2 .ensures .0))
     returns-3)
