@@ -308,8 +308,7 @@ fn find_over(links: &[u16], values: &[u64], met: &mut [u8], book: Book, wanted: 
     find_idle(links, values, met, book.lists, free, g)
 }
 
-// The whole check, rule 9 first. The record may be longer than the pool. It is cut to the pool's size, so that the compiler sees
-// slices of one length and tests a slot once.
+// The whole check, rule 9 first. The record may be longer than the pool. It is cut to the pool's size: a walk goes over no other.
 fn find(links: &[u16], values: &[u64], met: &mut [u8], book: Book, wanted: u16) -> Found
     requires { ⌜ SizesFit (length (now links)) (length (now values)) × (length (now links) ≤ length (now met)) × (now met ≡ nothingMet (length (now met))) ⌝ }
     ensures { λ r. ⌜ r ≡ checkFound wanted (now (links .entry)) (now (values .entry)) (eight book) ⌝ }
