@@ -9,7 +9,7 @@ use Rattle.books.specs.declared.Entry.{Entry}
 use Rattle.books.specs.declared.Book.{Book}
 use Rattle.books.specs.Book.{entryAt, wordsOf}
 use Rattle.shares.proofs.Fill.{Filling, fill-more, fill-all}
-use Rattle.abi.proofs.Flat.{head-word, tail-word, share-word, limit-word, words-length, free-word, each-word}
+use Rattle.faces.proofs.Flat.{head-word, tail-word, share-word, limit-word, words-length, free-word, each-word}
 
 -- the book that is being put: its first word stands in the words already
 abbrev pub being : List ℕ → List Entry → Free → Book

@@ -3,12 +3,12 @@ use mathlib.Core.Path.{_≡_, refl, ap, _∙_}
 use mathlib.Core.List.{List}
 use Prim.Native.Nat.{ℕ}
 use Rattle.books.specs.Outcome.{Outcome, outcome}
-use Rattle.shares.specs.declared.Answer.{Answer}
-use Rattle.shares.specs.declared.Popped.{Popped}
-use Rattle.shares.specs.declared.Read.{Read}
-use Rattle.shares.specs.Calls.{ReadLeft, readLeft}
-use Rattle.abi.specs.Words.{kept}
-use Rattle.abi.specs.Face.{changed, handed, shown, asChanged, asHanded, asShown}
+use Rattle.books.specs.declared.Answer.{Answer}
+use Rattle.books.specs.declared.Popped.{Popped}
+use Rattle.books.specs.declared.Read.{Read}
+use Rattle.shapes.specs.Tests.{ReadLeft, readLeft}
+use Rattle.faces.specs.Words.{kept}
+use Rattle.faces.specs.Face.{changed, handed, shown, asChanged, asHanded, asShown}
 
 module _ (words : List ℕ) {after links values : List ℕ} {number : ℕ} where
   pub changed-by : {r : Answer} {o : Outcome Answer} → number ≡ r .refusal .number → after ≡ kept (r .refusal .number) words (r .book) → outcome r links values ≡ o

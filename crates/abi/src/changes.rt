@@ -3,7 +3,7 @@ use crate::words::book_from;
 use crate::words::keep;
 ghost use mathlib.Core.Path.{_≡_};
 ghost use Rattle.books.specs.Outcome.{outcome};
-ghost use Rattle.abi.specs.Face.{changed, handed, setupFace, pushBackFace, pushFrontFace, popBackFace, popFrontFace, clearFace};
+ghost use Rattle.faces.specs.Face.{changed, handed, setupFace, pushBackFace, pushFrontFace, popBackFace, popFrontFace, clearFace};
 
 #[no_mangle]
 pub extern "C" fn flailreeve_setup(

@@ -1,6 +1,6 @@
 // Check, length and the reads for C. They change neither the pool nor the book.
 ghost use mathlib.Core.Path.{_≡_};
-ghost use Rattle.abi.specs.Face.{told, shown, checkFace, lengthFace, readForwardFace, readBackwardFace};
+ghost use Rattle.faces.specs.Face.{told, shown, checkFace, lengthFace, readForwardFace, readBackwardFace};
 
 #[no_mangle]
 pub extern "C" fn flailreeve_check(links: &[u16], values: &[u64], book: &[u16; 34]) -> u16

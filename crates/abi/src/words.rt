@@ -5,7 +5,7 @@ use books::Free;
 ghost use mathlib.Core.Path.{_≡_};
 ghost use Prim.Native.Nat.{_<_};
 ghost use Rattle.books.specs.Book.{wordsOf};
-ghost use Rattle.abi.specs.Words.{entryFrom, entriesFrom, bookFrom, kept};
+ghost use Rattle.faces.specs.Words.{entryFrom, entriesFrom, bookFrom, kept};
 
 fn entry_from(words: &[u16; 34], list: usize) -> Entry
     requires { ⌜ list < 8 ⌝ }

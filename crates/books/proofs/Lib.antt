@@ -4,4 +4,3 @@ pub mod Rules
 pub mod Numbers
 pub mod Tabulate
 pub mod Table
-pub mod Promised

@@ -17,6 +17,14 @@ pub table-at : (f : ℕ → ℕ → Bool) (m n : ℕ) (table : List (List Bool))
 table-at f m n table e i j p q =
     ap (λ (t : List (List Bool)). getD (getD t i []) j false) e ∙ ap (λ (r : List Bool). getD r j false) (tabulate-at [] m (λ k. tabulate n (f k)) i p) ∙ tabulate-at false n (f i) j q
 
+-- of each row the last number that its call gives, and one that it does not
+pub rows-tried : (mayGive 0 2 ≡ true) × (mayGive 0 3 ≡ false) × (mayGive 1 3 ≡ true) × (mayGive 1 2 ≡ false) × (mayGive 2 4 ≡ true) × (mayGive 2 5 ≡ false)
+    × (mayGive 3 7 ≡ true) × (mayGive 3 5 ≡ false) × (mayGive 4 7 ≡ true) × (mayGive 4 5 ≡ false) × (mayGive 5 5 ≡ true) × (mayGive 5 6 ≡ false)
+    × (mayGive 6 5 ≡ true) × (mayGive 6 6 ≡ false) × (mayGive 7 8 ≡ true) × (mayGive 7 5 ≡ false) × (mayGive 8 8 ≡ true) × (mayGive 8 5 ≡ false)
+    × (mayGive 9 4 ≡ true) × (mayGive 9 5 ≡ false)
+unfolding mayGive
+rows-tried = (refl, refl, refl, refl, refl, refl, refl, refl, refl, refl, refl, refl, refl, refl, refl, refl, refl, refl, refl, refl)
+
 -- ---- past the table
 
 abbrev all-below : ℕ → List ℕ → Bool

@@ -1,11 +1,6 @@
-// The records of a pool's book: what the book is, its constants, and whether it keeps the book rules; nothing here knows of links.
-pub mod rows;
-
+// The records of a pool's book and of the calls' answers, with the book's constants; nothing here knows of links.
 ghost use mathlib.Core.Path.{_≡_};
-ghost use Prim.Native.Nat.{_≤_, _<_};
-ghost use lib.ListN.{take, drop};
-ghost use Rattle.books.specs.Book.{zeroEntry, zeroBook, eight};
-ghost use Rattle.books.specs.Test.{sizeFits, isFair, isZero, gather, allZero, keepsRules};
+ghost use Rattle.books.specs.Book.{zeroEntry, zeroBook};
 
 // The idle chain: its first slot, or 0. It is passed whole, so that a new field changes no signature.
 #[repr(C)]
@@ -34,6 +29,41 @@ pub struct Book {
     pub lists: u16,
     pub entries: [Entry; 8],
     pub free: Free,
+}
+
+// The number of a call, and the book as it leaves it.
+#[repr(C)]
+pub struct Answer {
+    pub refusal: Refusal,
+    pub book: Book,
+}
+
+// The number of a pop, and the value that it hands out, 0 where it is refused.
+#[repr(C)]
+pub struct Value {
+    pub refusal: Refusal,
+    pub value: u64,
+}
+
+// What a pop hands out, and the book as it leaves it.
+#[repr(C)]
+pub struct Popped {
+    pub given: Value,
+    pub book: Book,
+}
+
+// The number, and a list's length, 0 where the call is refused.
+#[repr(C)]
+pub struct Length {
+    pub refusal: Refusal,
+    pub length: u16,
+}
+
+// The number, and how many values were written, 0 where the call is refused.
+#[repr(C)]
+pub struct Read {
+    pub refusal: Refusal,
+    pub count: u16,
 }
 
 impl Entry {
@@ -69,107 +99,4 @@ impl Book {
             free: Free { head: 0 },
         }
     }
-
-    // May a pool have so many slots?
-    pub fn size_fits(size: usize) -> bool
-        ensures { λ r. ⌜ r ≡ sizeFits size ⌝ }
-    {
-        if size < 2 {
-            return false;
-        }
-        if Book::LARGEST < size {
-            return false;
-        }
-        true
-    }
-
-    // Does the book keep the book rules in a pool of so many slots?
-    pub fn keeps_rules(self, size: usize) -> bool
-        ensures { λ r. ⌜ r ≡ keepsRules size (eight self) ⌝ }
-    {
-        let lists = self.lists;
-        let entries = self.entries;
-        if lists == 0 {
-            return false;
-        }
-        if 8 < lists {
-            return false;
-        }
-        let count = lists as usize;
-        if !shares_fit(entries, count, size) {
-            return false;
-        }
-        rest_zero(entries, count)
-    }
-}
-
-// A 16-bit number as an index.
-pub fn wide(x: u16) -> usize
-    ensures { λ r. ⌜ (r ≡ x) × (r < 65536) ⌝ }
-{
-    x as usize
-}
-
-// Is a list's share within its limit, and its limit within the pool?
-fn is_fair(entry: Entry, size: usize) -> bool
-    ensures { λ r. ⌜ r ≡ isFair size entry ⌝ }
-{
-    let limit = wide(entry.limit);
-    if entry.share <= entry.limit {
-        return limit < size;
-    }
-    false
-}
-
-// Are the first `count` entries fair, and do their shares add up to less than the pool's size?
-// An entry is read field by field: read whole, the compiler takes it for one number and shifts the fields out of it.
-fn shares_fit(entries: [Entry; 8], count: usize, size: usize) -> bool
-    requires { ⌜ count ≤ 8 ⌝ }
-    ensures { λ r. ⌜ r ≡ gather size (take count entries) 0 ⌝ }
-{
-    let mut sum: usize = 0;
-    let mut k: usize = 0;
-    while k < count {
-        let entry = Entry {
-            head: entries[k].head,
-            tail: entries[k].tail,
-            share: entries[k].share,
-            limit: entries[k].limit,
-        };
-        if !is_fair(entry, size) {
-            return false;
-        }
-        sum += wide(entry.share);
-        k += 1;
-    }
-    sum < size
-}
-
-fn is_zero(entry: Entry) -> bool
-    ensures { λ r. ⌜ r ≡ isZero entry ⌝ }
-{
-    if entry.head == 0 {
-        if entry.tail == 0 {
-            if entry.share == 0 {
-                return entry.limit == 0;
-            }
-        }
-    }
-    false
-}
-
-// Are all entries from `from` on zero?
-fn rest_zero(entries: [Entry; 8], from: usize) -> bool
-    requires { ⌜ from ≤ 8 ⌝ }
-    ensures { λ r. ⌜ r ≡ allZero (drop from entries) ⌝ }
-{
-    let mut k = from;
-    while k < 8 {
-        let entry = entries[k];
-        if !is_zero(entry) {
-            return false;
-        }
-        k += 1;
-    }
-    true
 }

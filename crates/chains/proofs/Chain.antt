@@ -8,7 +8,7 @@ use native.Mathlib.Omega.{arith}
 use lib.Bits.{bitXor, xor-comm}
 use lib.ListN.{length, getD}
 use Rattle.chains.specs.Count.{count}
-use Rattle.chains.specs.Chain.{cell, firstOr, lastOr, prevOf, nextOf, Linked, LiveChain, after, IdleChain}
+use Rattle.chains.specs.Chain.{cell, firstOr, lastOr, prevOf, nextOf, Linked, LiveChain, following, IdleChain}
 use Rattle.chains.proofs.Count.{count-apart, count-first}
 use Rattle.chains.proofs.Xor.{xor-cancel-out}
 
@@ -107,4 +107,4 @@ pub live-unique : (links xs ys : List ℕ) → count 0 xs ≡ 0 → count 0 ys �
 live-unique links xs ys a b c d e = linked-unique bitXor (λ p v. bitXor v p) xor-cancel-out (cell links) xs ys a b c d e
 
 pub idle-unique : (links xs ys : List ℕ) → count 0 xs ≡ 0 → count 0 ys ≡ 0 → IdleChain links xs → IdleChain links ys → firstOr 0 xs ≡ firstOr 0 ys → xs ≡ ys
-idle-unique links xs ys a b c d e = linked-unique after (λ p v. v) (λ p v. refl) (cell links) xs ys a b c d e
+idle-unique links xs ys a b c d e = linked-unique following (λ p v. v) (λ p v. refl) (cell links) xs ys a b c d e

@@ -7,7 +7,7 @@ use native.Mathlib.Nat.{not-suc-le-zero, zero-lt-suc}
 use native.Mathlib.Omega.{arith}
 use lib.Bits.{bitXor, xor-comm}
 use Rattle.chains.specs.Count.{hit, count}
-use Rattle.chains.specs.Chain.{firstOr, lastOr, after}
+use Rattle.chains.specs.Chain.{firstOr, lastOr, following}
 use Rattle.chains.proofs.Count.{hit-same, count-apart, count-first}
 use Rattle.chains.proofs.Xor.{xor-cancel-out}
 use Rattle.chains.proofs.Chain.{Chain, chain-frame}
@@ -67,6 +67,6 @@ pop-chain at at′ f (x ∷ xs) u z s o c = (
 -- ---- the front of an idle chain
 
 -- which slot stands before the first idle one does not matter
-pub idle-any : (at : ℕ → ℕ) (p r : ℕ) (xs : List ℕ) → Chain after at p xs 0 → Chain after at r xs 0
+pub idle-any : (at : ℕ → ℕ) (p r : ℕ) (xs : List ℕ) → Chain following at p xs 0 → Chain following at r xs 0
 idle-any at p r [] c = tt
 idle-any at p r (x ∷ xs) c = c

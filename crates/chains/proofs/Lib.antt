@@ -4,3 +4,4 @@ pub mod Count
 pub mod Chain
 pub mod Ends
 pub mod Cover
+pub mod Tried

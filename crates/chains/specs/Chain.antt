@@ -37,9 +37,9 @@ abbrev pub LiveChain : List ℕ → List ℕ → Type 0
 LiveChain links xs = Linked bitXor (cell links) xs
 
 -- of the slot before and the slot after, the slot after
-abbrev pub after : ℕ → ℕ → ℕ
-after p n = n
+abbrev pub following : ℕ → ℕ → ℕ
+following p n = n
 
 -- 01: "a free slot's link is the next free slot, 0 at the last"
 abbrev pub IdleChain : List ℕ → List ℕ → Type 0
-IdleChain links xs = Linked after (cell links) xs
+IdleChain links xs = Linked following (cell links) xs

@@ -1,21 +1,14 @@
 // The calls of the demonstration, in upstream's order: a list is set up, three values are pushed, and three are popped.
+use books::Answer;
 use books::Book;
-use shares::Answer;
-use shares::Popped;
+use books::Popped;
+use shows::Gone;
 ghost use mathlib.Core.Path.{_≡_};
 ghost use Rattle.books.specs.Outcome.{outcome};
-ghost use Rattle.demo.specs.Demo.{nextBack, nextFront, nextPop, pushedOf, poppedOf};
+ghost use Rattle.shows.specs.Demo.{nextBack, nextFront, nextPop, pushedOf, poppedOf};
 
 // 01: "one list with share and limit 5"
 const FIVE: [u16; 8] = [5, 0, 0, 0, 0, 0, 0, 0];
-
-// The number of the first pop that was refused, or 0, and the values that the three handed out, 0 from a refused one on.
-pub(crate) struct Gone {
-    pub(crate) number: u16,
-    pub(crate) last: u64,
-    pub(crate) first: u64,
-    pub(crate) left: u64,
-}
 
 // Sets up the list, pushes 2 and 3 at its back and 1 at its front. No call follows one that is refused.
 pub(crate) fn push_three(links: &mut [u16], values: &mut [u64]) -> Answer

@@ -1,8 +1,8 @@
 // The lines of the demonstration, put into a buffer one after the other.
 ghost use Prim.Native.Nat.{_+_, _*_, _≤_};
 ghost use lib.ListN.{length};
-ghost use Rattle.digits.specs.Digits.{Written};
-ghost use Rattle.demo.specs.Demo.{lineOf, refusalOf, threeOf};
+ghost use Rattle.wording.specs.Digits.{Written};
+ghost use Rattle.shows.specs.Demo.{lineOf, refusalOf, threeOf};
 
 // Three lines with one label. Answers how many bytes they have.
 pub(crate) fn three(out: &mut [u8], at: usize, label: &[u8], x: u64, y: u64, z: u64) -> usize

@@ -2,11 +2,11 @@
 mod calls;
 mod lines;
 
-use crate::calls::Gone;
+use shows::Gone;
 ghost use Prim.Native.Nat.{_+_, _≤_};
 ghost use lib.ListN.{length};
-ghost use Rattle.digits.specs.Digits.{Written};
-ghost use Rattle.demo.specs.Demo.{shownPops, shownOf, sixLines};
+ghost use Rattle.wording.specs.Digits.{Written};
+ghost use Rattle.shows.specs.Demo.{shownPops, shownOf, sixLines};
 
 fn main() {
     let mut out = [0u8; 192];

@@ -1,7 +1,7 @@
 // A number's decimal digits, the most significant first, worked out by dividing by ten.
 ghost use mathlib.Core.Path.{_≡_};
 ghost use Prim.Native.Nat.{_<_};
-ghost use Rattle.digits.specs.Digits.{asciiOf, bytesOf, Written};
+ghost use Rattle.wording.specs.Digits.{asciiOf, bytesOf, Written};
 
 // The number's digits into `out` from place `at` on. Answers how many, which is at least 1.
 // Where they do not all fit it answers 0, and nothing is written.

@@ -5,11 +5,11 @@ use Prim.Native.Nat.{ℕ}
 use Rattle.books.specs.declared.Book.{Book}
 use Rattle.books.specs.declared.Refusal.{Refusal}
 use Rattle.books.specs.Outcome.{outcome}
-use Rattle.shares.specs.declared.Answer.{Answer}
-use Rattle.shares.specs.declared.Popped.{Popped}
-use Rattle.shares.specs.declared.Value.{Value}
-use Rattle.shares.specs.Ten.{pushBackOf, pushFrontOf, popBackOf, popFrontOf}
-use Rattle.shares.proofs.OneResult.{push-back-one, push-front-one, pop-back-one, pop-front-one}
+use Rattle.books.specs.declared.Answer.{Answer}
+use Rattle.books.specs.declared.Popped.{Popped}
+use Rattle.books.specs.declared.Value.{Value}
+use Rattle.xor.specs.Ten.{pushBackOf, pushFrontOf, popBackOf, popFrontOf}
+use Rattle.xor.proofs.OneResult.{push-back-one, push-front-one, pop-back-one, pop-front-one}
 use Rattle.lent.specs.Lent.{pushed, popped}
 
 -- the answers of the by-value calls come apart again

@@ -1,4 +1,4 @@
--- The one walk of both lent pops: the code whose only free part is the name of the by-value pop that it calls.
+-- The one walk of both lent pops: the code whose only free part is the name of the pop-by-value pop that it calls.
 --     let held = *book; let gone = NAME(links, values, held, list); *book = gone.book; gone.given
 -- It is Push.antt with one number less and another answer.
 use mathlib.Core.Path.{_≡_, refl, ap}
@@ -39,19 +39,19 @@ use denote.Exit.{yes}
 use denote.Signature.{plain}
 use Rattle.books.specs.declared.Book.{Book}
 use Rattle.books.specs.Outcome.{Outcome, outcome}
-use Rattle.shares.specs.declared.Popped.{Popped}
+use Rattle.books.specs.declared.Popped.{Popped}
 use Rattle.lent.specs.Lent.{popped}
 use Rattle.books.proofs.Book as B
 use Rattle.books.proofs.Book.Laws as B′
-use Rattle.shares.proofs.Value as Q
-use Rattle.shares.proofs.Value.Laws as Q′
-use Rattle.shares.proofs.Popped as P
-use Rattle.shares.proofs.Popped.Laws as P′
+use Rattle.books.proofs.Value as Q
+use Rattle.books.proofs.Value.Laws as Q′
+use Rattle.books.proofs.Popped as P
+use Rattle.books.proofs.Popped.Laws as P′
 use Rattle.shares.proofs.ends.pop_back as g
 use Rattle.lent.proofs.Loan.{lent, R, vals, no-needs}
 use Rattle.lent.proofs.flailreeve_lent_pop_back as f
 
--- B is the book, P the answer of a by-value pop and Q what it hands out; g is such a pop, f a lent one, of which only the types count here
+-- B is the book, P the answer of a pop-by-value pop and Q what it hands out; g is such a pop, f a lent one, of which only the types count here
 abbrev lent-code : Name → Fn
 lent-code = lent Q′.mir P′.mir (tyInt w16 ∷ [])
 
@@ -66,34 +66,34 @@ book-is : (r : Popped) (w : Val) → Is P.the-row r (w ∷ []) → Is R (r .book
 book-is r w is = LL.owed P.the-type P′.the-laws r _ is .1 .0
 
 -- what a pop by value may give, from both slices, the book and the list
-abbrev pub Given-by : Type 0
-Given-by = List ℕ → List ℕ → Book → ℕ → Outcome Popped
+abbrev pub pop-given-by : Type 0
+pop-given-by = List ℕ → List ℕ → Book → ℕ → Outcome Popped
 
 -- both promises
-module _ (Gives Said : Given-by) {M : Type 1} (𝓤 : URA M) (H : Heap 𝓤) where
-  abbrev pub by-value : Clauses 𝓤 g.ended
-  by-value κs a = record {
+module _ (Gives Said : pop-given-by) {M : Type 1} (𝓤 : URA M) (H : Heap 𝓤) where
+  abbrev pub pop-by-value : Clauses 𝓤 g.ended
+  pop-by-value κs a = record {
     ghost = Unit {0};
     requires = λ _. emp 𝓤;
     ensures = λ _ r e. fact 𝓤 (outcome r (e .0 .now) (e .1 .0 .now) ≡ Gives (a .0 .now) (a .1 .0 .now) (a .1 .1 .0) (a .1 .1 .1 .0));
   }
 
-  abbrev pub by-loan : Clauses 𝓤 f.ended
-  by-loan κs a = record {
+  abbrev pub pop-by-loan : Clauses 𝓤 f.ended
+  pop-by-loan κs a = record {
     ghost = Unit {0};
     requires = λ _. emp 𝓤;
     ensures = λ _ r e. fact 𝓤 (outcome (popped r (e .1 .1 .0 .now)) (e .0 .now) (e .1 .0 .now) ≡ Said (a .0 .now) (a .1 .0 .now) (a .1 .1 .0 .now) (a .1 .1 .1 .0));
   }
 
-  abbrev pub G : Atoms 𝓤 → Contract 𝓤
-  G A = tripleOf 𝓤 H A g.signature (closing 𝓤 H A g.ended by-value)
+  abbrev pub CalledPop : Atoms 𝓤 → Contract 𝓤
+  CalledPop A = tripleOf 𝓤 H A g.signature (closing 𝓤 H A g.ended pop-by-value)
 
-module _ (Gives Said : Given-by) (so : (l₀ l₁ : List ℕ) (h : Book) (n : ℕ) (r : Popped) (z₀ z₁ : List ℕ) → outcome r z₀ z₁ ≡ Gives l₀ l₁ h n → outcome (popped (r .given) (r .book)) z₀ z₁ ≡ Said l₀ l₁ h n) (#g : Name) where
+module _ (Gives Said : pop-given-by) (so : (l₀ l₁ : List ℕ) (h : Book) (n : ℕ) (r : Popped) (z₀ z₁ : List ℕ) → outcome r z₀ z₁ ≡ Gives l₀ l₁ h n → outcome (popped (r .given) (r .book)) z₀ z₁ ≡ Said l₀ l₁ h n) (#g : Name) where
   -- κ and q are the lifetimes and their shares, x₀ and x₁ the slices; the book h lies at b and o, under the name γ; n is the list
   module _ {M : Type 1} (𝓤 : URA M) (H : Heap 𝓤) (A : Atoms 𝓤) (W : Given 𝓤 H A) (κ₀ κ₁ κ₂ : Lft) (q₀ q₁ q₂ : Share) (x₀ x₁ : RefT (List ℕ)) (b o : ℕ) (γ : GName) (h : Book) (n : ℕ)
       (n-fits : n < 2 ^ 16) (room₀ : Room u16 (length (x₀ .now))) (room₁ : Room u64 (length (x₁ .now))) where
     abbrev K : Contract 𝓤
-    K = G Gives Said 𝓤 H A
+    K = CalledPop Gives Said 𝓤 H A
 
     abbrev Arg : Type 0
     Arg = RefT (List ℕ) × (RefT (List ℕ) × (RefT Book × (ℕ × Unit {0})))
@@ -111,7 +111,7 @@ module _ (Gives Said : Given-by) (so : (l₀ l₁ : List ℕ) (h : Book) (n : �
     at = (s₀ ∷ [], (s₁ ∷ [], (vptr b o ∷ [], (vint w16 n ∷ [], tt))))
 
     abbrev Post : Val → SProp 𝓤
-    Post = walkOf 𝓤 H A f.ended stayed (by-loan Gives Said 𝓤 H) .post (((κ₀, (κ₁, (κ₂, tt))), (q₀, (q₁, (q₂, tt))), tt, a, at), tt)
+    Post = walkOf 𝓤 H A f.ended stayed (pop-by-loan Gives Said 𝓤 H) .post (((κ₀, (κ₁, (κ₂, tt))), (q₀, (q₁, (q₂, tt))), tt, a, at), tt)
 
     -- what g's triple binds outside
     abbrev to-g : K .Ghost
@@ -127,7 +127,7 @@ module _ (Gives Said : Given-by) (so : (l₀ l₁ : List ℕ) (h : Book) (n : �
         → ent 𝓤 (⋆ 𝓤 H A (‵ (fobs γ (R .coded .code (r .book))) ∷ ‵ (fbor κ₂ (Body (mem R) b o γ)) ∷ ‵ (flft κ₂ q₂) ∷ (‵ (flft κ₀ q₀) ⊛ ‵ (flft κ₁ q₁) ⊛ ‵ ftrue) ∷ ‵ (finally u16 (x₀ .name) zs₀) ∷ ‵ (finally u64 (x₁ .name) zs₁) ∷ [])) (Post (LL.val Q.the-type Q′.the-laws (r .given)))
     exits r w zs₀ zs₁ e l₀ l₁ is =
         qed W (‵ (fobs γ (R .coded .code (r .book))) ∷ ‵ (fbor κ₂ (Body (mem R) b o γ)) ∷ ‵ (flft κ₂ q₂) ∷ (‵ (flft κ₀ q₀) ⊛ ‵ (flft κ₁ q₁) ⊛ ‵ ftrue) ∷ ‵ (finally u16 (x₀ .name) zs₀) ∷ ‵ (finally u64 (x₁ .name) zs₁) ∷ []) ∵
-        suffices ! _ (ends-at 𝓤 H A f.ended stayed (by-loan Gives Said 𝓤 H) W (((κ₀, (κ₁, (κ₂, tt))), (q₀, (q₁, (q₂, tt))), tt, a, at), tt) (LL.val Q.the-type Q′.the-laws (r .given)) (r .given) (zs₀, (zs₁, (r .book, (tt, tt)))) (l₀, (l₁, (tt, (tt, tt))))) $
+        suffices ! _ (ends-at 𝓤 H A f.ended stayed (pop-by-loan Gives Said 𝓤 H) W (((κ₀, (κ₁, (κ₂, tt))), (q₀, (q₁, (q₂, tt))), tt, a, at), tt) (LL.val Q.the-type Q′.the-laws (r .given)) (r .given) (zs₀, (zs₁, (r .book, (tt, tt)))) (l₀, (l₁, (tt, (tt, tt))))) $
         says ! (so (x₀ .now) (x₁ .now) h n r zs₀ zs₁ e) $
         move ! (3 ∷ []) $ split ! $ move ! (1 ∷ []) $ split ! $ move ! (5 ∷ 1 ∷ []) $ join ! $ move ! (1 ∷ 0 ∷ []) $ join ! $ move ! (1 ∷ 0 ∷ []) $ join ! $ frame ! $
         feqI ! (List Val) (vptr b o ∷ []) (vptr b o ∷ []) refl $ fjoin3 ! $ nothing ! $ owned ! u16 (Is u16) (uint-makes 𝓤 H A W w16) n _ (refl, n-fits) $ fjoin ! $
@@ -155,7 +155,7 @@ module _ (Gives Said : Given-by) (so : (l₀ l₁ : List ℕ) (h : Book) (n : �
           -- the call, with both slices as they came
           move ! (30 ∷ 29 ∷ 28 ∷ []) $ use3 W (raw (K .pre to-g)) (goes was) $
           calls-at ! fm K known to-g (and-then ! (load ! (from ! (stop !)) (look ! 10 refl)) (and-then ! (load ! (from ! (stop !)) (look ! 6 refl)) (and-then ! (load ! (from ! (stop !)) (look ! 16 refl)) (and-then ! (load ! (from ! (stop !)) (look ! 18 refl)) (no-more !))))) (λ w.
-          use1 W (later (some (λ (r : Popped). ((‵ (flft κ₀ q₀) ⊛ ‵ (flft κ₁ q₁) ⊛ ‵ ftrue) ⊛ ‵ (P.the-row .own r (w ∷ []))) ⊛ raw (ensured 𝓤 H A g.ended (by-value Gives Said 𝓤 H) (κ₀, (κ₁, tt)) (x₀, (x₁, (h, (n, tt)))) tt r)))) (id⊢ 𝓤 _) $ await ! tt $ pick ! (λ r.
+          use1 W (later (some (λ (r : Popped). ((‵ (flft κ₀ q₀) ⊛ ‵ (flft κ₁ q₁) ⊛ ‵ ftrue) ⊛ ‵ (P.the-row .own r (w ∷ []))) ⊛ raw (ensured 𝓤 H A g.ended (pop-by-value Gives Said 𝓤 H) (κ₀, (κ₁, tt)) (x₀, (x₁, (h, (n, tt)))) tt r)))) (id⊢ 𝓤 _) $ await ! tt $ pick ! (λ r.
           -- what g ensures, at some last lists
           split ! $ move ! (1 ∷ []) $ use1 W (some (λ (zs : List ℕ × (List ℕ × (Unit {0} × (Unit {0} × Unit {0})))). ‵ (lasts g.ended (κ₀, (κ₁, tt)) (x₀, (x₁, (h, (n, tt)))) zs) ⊛ raw (fact 𝓤 (outcome r (zs .0) (zs .1 .0) ≡ Gives (x₀ .now) (x₁ .now) h n)))) (id⊢ 𝓤 _) $ pick ! (λ zs.
           split ! $ move ! (1 ∷ []) $ heard ! (outcome r (zs .0) (zs .1 .0) ≡ Gives (x₀ .now) (x₁ .now) h n) (λ e. fsplit ! $ fsplit ! $ move ! (1 ∷ []) $ feqL ! (λ len₀. move ! (1 ∷ []) $ fsplit ! $ fsplit ! $ move ! (1 ∷ []) $ feqL ! (λ len₁.
@@ -173,15 +173,15 @@ module _ (Gives Said : Given-by) (so : (l₀ l₁ : List ℕ) (h : Book) (n : �
           keep ! (0 ∷ 1 ∷ 2 ∷ 4 ∷ 7 ∷ 5 ∷ []) $ by ! (exits r w (zs .0) (zs .1 .0) e len₀ len₁ is)))))))))))))))))))))
 
   module _ {M : Type 1} (𝓤 : URA M) (H : Heap 𝓤) (A : Atoms 𝓤) (W : Given 𝓤 H A) where
-    walks : (C : Calls 𝓤 H) (Λ : Loops 𝓤 H) → FmC 𝓤 H (W .laws) C → Triple 𝓤 (C #g) (G Gives Said 𝓤 H A) → Walks 𝓤 H A f.ended stayed (WpFn 𝓤 H C Λ (lent-code #g)) (by-loan Gives Said 𝓤 H)
-    walks C Λ fm known = walked 𝓤 H A f.ended stayed (by-loan Gives Said 𝓤 H) (WpFn 𝓤 H C Λ (lent-code #g)) (λ κs. (slice-vals, (slice-vals, (ptr-vals, (uint-vals w16, tt)))))
+    walks : (C : Calls 𝓤 H) (Λ : Loops 𝓤 H) → FmC 𝓤 H (W .laws) C → Triple 𝓤 (C #g) (CalledPop Gives Said 𝓤 H A) → Walks 𝓤 H A f.ended stayed (WpFn 𝓤 H C Λ (lent-code #g)) (pop-by-loan Gives Said 𝓤 H)
+    walks C Λ fm known = walked 𝓤 H A f.ended stayed (pop-by-loan Gives Said 𝓤 H) (WpFn 𝓤 H C Λ (lent-code #g)) (λ κs. (slice-vals, (slice-vals, (ptr-vals, (uint-vals w16, tt)))))
         (λ κs. (mut-slice-tells (named 0) (κs .0) u16, (mut-slice-tells (named 1) (κs .1 .0) u64, (mut-tells (named 2) (κs .1 .1 .0) R, (uint-tells w16, tt)))))
         (λ κs qs bounds a _ are. via 𝓤 _ (fst∗ 𝓤 _ (emp 𝓤)) (
         walk 𝓤 H A W (κs .0) (κs .1 .0) (κs .1 .1 .0) (qs .0) (qs .1 .0) (qs .1 .1 .0) (a .0) (a .1 .0) (a .1 .1 .0 .ptr .0) (a .1 .1 .0 .ptr .1) (a .1 .1 .0 .name) (a .1 .1 .0 .now) (a .1 .1 .1 .0)
         (are .1 .1 .1 .0 .1) (are .0 .0 .1) (are .1 .0 .0 .1) C Λ fm known))
 
-    pub lent-meets : (𝓣 : Tables 𝓤 H) → Triple 𝓤 (𝓣 .C #g) (G Gives Said 𝓤 H A) → Meets 𝓤 H A f.signature (WpFn 𝓤 H (𝓣 .C) (𝓣 .Λ) (lent-code #g)) (closing 𝓤 H A f.ended (by-loan Gives Said 𝓤 H))
-    lent-meets 𝓣 known =
+    pub pop-lent-meets : (𝓣 : Tables 𝓤 H) → Triple 𝓤 (𝓣 .C #g) (CalledPop Gives Said 𝓤 H A) → Meets 𝓤 H A f.signature (WpFn 𝓤 H (𝓣 .C) (𝓣 .Λ) (lent-code #g)) (closing 𝓤 H A f.ended (pop-by-loan Gives Said 𝓤 H))
+    pop-lent-meets 𝓣 known =
         walk-meets 𝓤 H A f.ended stayed W
         (goes-gave-slice 𝓤 H A W 3 0 tt (plain (λ _. u16)), (goes-gave-slice 𝓤 H A W 3 1 tt (plain (λ _. u64)), (goes-ref 𝓤 H A W 3 2 tt (plain (λ _. R)), (goes-none 𝓤 H A W 3 (λ _. u16) yes (λ κs x f. refl), tt))))
-        (by-loan Gives Said 𝓤 H) (WpFn 𝓤 H (𝓣 .C) (𝓣 .Λ) (lent-code #g)) (WpFn-mono 𝓤 H (W .laws) 𝓣 (lent-code #g)) (walks (𝓣 .C) (𝓣 .Λ) (fmOf 𝓤 H (W .laws) 𝓣) known)
+        (pop-by-loan Gives Said 𝓤 H) (WpFn 𝓤 H (𝓣 .C) (𝓣 .Λ) (lent-code #g)) (WpFn-mono 𝓤 H (W .laws) 𝓣 (lent-code #g)) (walks (𝓣 .C) (𝓣 .Λ) (fmOf 𝓤 H (W .laws) 𝓣) known)

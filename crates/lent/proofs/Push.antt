@@ -1,4 +1,4 @@
--- The one walk of both lent pushes: the code whose only free part is the name of the by-value push that it calls.
+-- The one walk of both lent pushes: the code whose only free part is the name of the push-by-value push that it calls.
 --     let held = *book; let gone = NAME(links, values, held, list, value); *book = gone.book; gone.refusal
 -- It knows of that push what its promise says (`Gives`), and gives the lent push's own (`Said`) where that follows from it.
 use mathlib.Core.Path.{_≡_, refl, ap}
@@ -39,19 +39,19 @@ use denote.Exit.{yes}
 use denote.Signature.{plain}
 use Rattle.books.specs.declared.Book.{Book}
 use Rattle.books.specs.Outcome.{Outcome, outcome}
-use Rattle.shares.specs.declared.Answer.{Answer}
+use Rattle.books.specs.declared.Answer.{Answer}
 use Rattle.lent.specs.Lent.{pushed}
 use Rattle.books.proofs.Book as B
 use Rattle.books.proofs.Book.Laws as B′
 use Rattle.books.proofs.Refusal as Q
 use Rattle.books.proofs.Refusal.Laws as Q′
-use Rattle.shares.proofs.Answer as P
-use Rattle.shares.proofs.Answer.Laws as P′
+use Rattle.books.proofs.Answer as P
+use Rattle.books.proofs.Answer.Laws as P′
 use Rattle.shares.proofs.ends.push_back as g
 use Rattle.lent.proofs.Loan.{lent, R, vals, no-needs}
 use Rattle.lent.proofs.flailreeve_lent_push_back as f
 
--- B is the book, P the answer of a by-value push and Q its refusal; g is such a push, f a lent one, of which only the types count here
+-- B is the book, P the answer of a push-by-value push and Q its refusal; g is such a push, f a lent one, of which only the types count here
 abbrev lent-code : Name → Fn
 lent-code = lent Q′.mir P′.mir (tyInt w16 ∷ tyInt w64 ∷ [])
 
@@ -66,34 +66,34 @@ book-is : (r : Answer) (w : Val) → Is P.the-row r (w ∷ []) → Is R (r .book
 book-is r w is = LL.owed P.the-type P′.the-laws r _ is .1 .0
 
 -- what a push by value may give, from both slices, the book, the list and the value
-abbrev pub Given-by : Type 0
-Given-by = List ℕ → List ℕ → Book → ℕ → ℕ → Outcome Answer
+abbrev pub push-given-by : Type 0
+push-given-by = List ℕ → List ℕ → Book → ℕ → ℕ → Outcome Answer
 
 -- both promises
-module _ (Gives Said : Given-by) {M : Type 1} (𝓤 : URA M) (H : Heap 𝓤) where
-  abbrev pub by-value : Clauses 𝓤 g.ended
-  by-value κs a = record {
+module _ (Gives Said : push-given-by) {M : Type 1} (𝓤 : URA M) (H : Heap 𝓤) where
+  abbrev pub push-by-value : Clauses 𝓤 g.ended
+  push-by-value κs a = record {
     ghost = Unit {0};
     requires = λ _. emp 𝓤;
     ensures = λ _ r e. fact 𝓤 (outcome r (e .0 .now) (e .1 .0 .now) ≡ Gives (a .0 .now) (a .1 .0 .now) (a .1 .1 .0) (a .1 .1 .1 .0) (a .1 .1 .1 .1 .0));
   }
 
-  abbrev pub by-loan : Clauses 𝓤 f.ended
-  by-loan κs a = record {
+  abbrev pub push-by-loan : Clauses 𝓤 f.ended
+  push-by-loan κs a = record {
     ghost = Unit {0};
     requires = λ _. emp 𝓤;
     ensures = λ _ r e. fact 𝓤 (outcome (pushed r (e .1 .1 .0 .now)) (e .0 .now) (e .1 .0 .now) ≡ Said (a .0 .now) (a .1 .0 .now) (a .1 .1 .0 .now) (a .1 .1 .1 .0) (a .1 .1 .1 .1 .0));
   }
 
-  abbrev pub G : Atoms 𝓤 → Contract 𝓤
-  G A = tripleOf 𝓤 H A g.signature (closing 𝓤 H A g.ended by-value)
+  abbrev pub CalledPush : Atoms 𝓤 → Contract 𝓤
+  CalledPush A = tripleOf 𝓤 H A g.signature (closing 𝓤 H A g.ended push-by-value)
 
-module _ (Gives Said : Given-by) (so : (l₀ l₁ : List ℕ) (h : Book) (n v : ℕ) (r : Answer) (z₀ z₁ : List ℕ) → outcome r z₀ z₁ ≡ Gives l₀ l₁ h n v → outcome (pushed (r .refusal) (r .book)) z₀ z₁ ≡ Said l₀ l₁ h n v) (#g : Name) where
+module _ (Gives Said : push-given-by) (so : (l₀ l₁ : List ℕ) (h : Book) (n v : ℕ) (r : Answer) (z₀ z₁ : List ℕ) → outcome r z₀ z₁ ≡ Gives l₀ l₁ h n v → outcome (pushed (r .refusal) (r .book)) z₀ z₁ ≡ Said l₀ l₁ h n v) (#g : Name) where
   -- κ and q are the lifetimes and their shares, x₀ and x₁ the slices; the book h lies at b and o, under the name γ; n is the list, and v the value
   module _ {M : Type 1} (𝓤 : URA M) (H : Heap 𝓤) (A : Atoms 𝓤) (W : Given 𝓤 H A) (κ₀ κ₁ κ₂ : Lft) (q₀ q₁ q₂ : Share) (x₀ x₁ : RefT (List ℕ)) (b o : ℕ) (γ : GName) (h : Book) (n v : ℕ)
       (n-fits : n < 2 ^ 16) (v-fits : v < 2 ^ 64) (room₀ : Room u16 (length (x₀ .now))) (room₁ : Room u64 (length (x₁ .now))) where
     abbrev K : Contract 𝓤
-    K = G Gives Said 𝓤 H A
+    K = CalledPush Gives Said 𝓤 H A
 
     abbrev Arg : Type 0
     Arg = RefT (List ℕ) × (RefT (List ℕ) × (RefT Book × (ℕ × (ℕ × Unit {0}))))
@@ -111,7 +111,7 @@ module _ (Gives Said : Given-by) (so : (l₀ l₁ : List ℕ) (h : Book) (n v : 
     at = (s₀ ∷ [], (s₁ ∷ [], (vptr b o ∷ [], (vint w16 n ∷ [], (vint w64 v ∷ [], tt)))))
 
     abbrev Post : Val → SProp 𝓤
-    Post = walkOf 𝓤 H A f.ended stayed (by-loan Gives Said 𝓤 H) .post (((κ₀, (κ₁, (κ₂, tt))), (q₀, (q₁, (q₂, tt))), tt, a, at), tt)
+    Post = walkOf 𝓤 H A f.ended stayed (push-by-loan Gives Said 𝓤 H) .post (((κ₀, (κ₁, (κ₂, tt))), (q₀, (q₁, (q₂, tt))), tt, a, at), tt)
 
     -- what g's triple binds outside
     abbrev to-g : K .Ghost
@@ -127,7 +127,7 @@ module _ (Gives Said : Given-by) (so : (l₀ l₁ : List ℕ) (h : Book) (n v : 
         → ent 𝓤 (⋆ 𝓤 H A (‵ (fobs γ (R .coded .code (r .book))) ∷ ‵ (fbor κ₂ (Body (mem R) b o γ)) ∷ ‵ (flft κ₂ q₂) ∷ (‵ (flft κ₀ q₀) ⊛ ‵ (flft κ₁ q₁) ⊛ ‵ ftrue) ∷ ‵ (finally u16 (x₀ .name) zs₀) ∷ ‵ (finally u64 (x₁ .name) zs₁) ∷ [])) (Post (LL.val Q.the-type Q′.the-laws (r .refusal)))
     exits r w zs₀ zs₁ e l₀ l₁ is =
         qed W (‵ (fobs γ (R .coded .code (r .book))) ∷ ‵ (fbor κ₂ (Body (mem R) b o γ)) ∷ ‵ (flft κ₂ q₂) ∷ (‵ (flft κ₀ q₀) ⊛ ‵ (flft κ₁ q₁) ⊛ ‵ ftrue) ∷ ‵ (finally u16 (x₀ .name) zs₀) ∷ ‵ (finally u64 (x₁ .name) zs₁) ∷ []) ∵
-        suffices ! _ (ends-at 𝓤 H A f.ended stayed (by-loan Gives Said 𝓤 H) W (((κ₀, (κ₁, (κ₂, tt))), (q₀, (q₁, (q₂, tt))), tt, a, at), tt) (LL.val Q.the-type Q′.the-laws (r .refusal)) (r .refusal) (zs₀, (zs₁, (r .book, (tt, (tt, tt))))) (l₀, (l₁, (tt, (tt, (tt, tt)))))) $
+        suffices ! _ (ends-at 𝓤 H A f.ended stayed (push-by-loan Gives Said 𝓤 H) W (((κ₀, (κ₁, (κ₂, tt))), (q₀, (q₁, (q₂, tt))), tt, a, at), tt) (LL.val Q.the-type Q′.the-laws (r .refusal)) (r .refusal) (zs₀, (zs₁, (r .book, (tt, (tt, tt))))) (l₀, (l₁, (tt, (tt, (tt, tt)))))) $
         says ! (so (x₀ .now) (x₁ .now) h n v r zs₀ zs₁ e) $
         move ! (3 ∷ []) $ split ! $ move ! (1 ∷ []) $ split ! $ move ! (5 ∷ 1 ∷ []) $ join ! $ move ! (1 ∷ 0 ∷ []) $ join ! $ move ! (1 ∷ 0 ∷ []) $ join ! $ frame ! $
         feqI ! (List Val) (vptr b o ∷ []) (vptr b o ∷ []) refl $ fjoin3 ! $ nothing ! $ owned ! u64 (Is u64) (uint-makes 𝓤 H A W w64) v _ (refl, v-fits) $ fjoin ! $ owned ! u16 (Is u16) (uint-makes 𝓤 H A W w16) n _ (refl, n-fits) $ fjoin ! $
@@ -155,7 +155,7 @@ module _ (Gives Said : Given-by) (so : (l₀ l₁ : List ℕ) (h : Book) (n v : 
           -- the call, with both slices as they came
           move ! (32 ∷ 31 ∷ 30 ∷ []) $ use3 W (raw (K .pre to-g)) (goes was) $
           calls-at ! fm K known to-g (and-then ! (load ! (from ! (stop !)) (look ! 10 refl)) (and-then ! (load ! (from ! (stop !)) (look ! 6 refl)) (and-then ! (load ! (from ! (stop !)) (look ! 16 refl)) (and-then ! (load ! (from ! (stop !)) (look ! 20 refl)) (and-then ! (load ! (from ! (stop !)) (look ! 18 refl)) (no-more !)))))) (λ w.
-          use1 W (later (some (λ (r : Answer). ((‵ (flft κ₀ q₀) ⊛ ‵ (flft κ₁ q₁) ⊛ ‵ ftrue) ⊛ ‵ (P.the-row .own r (w ∷ []))) ⊛ raw (ensured 𝓤 H A g.ended (by-value Gives Said 𝓤 H) (κ₀, (κ₁, tt)) (x₀, (x₁, (h, (n, (v, tt))))) tt r)))) (id⊢ 𝓤 _) $ await ! tt $ pick ! (λ r.
+          use1 W (later (some (λ (r : Answer). ((‵ (flft κ₀ q₀) ⊛ ‵ (flft κ₁ q₁) ⊛ ‵ ftrue) ⊛ ‵ (P.the-row .own r (w ∷ []))) ⊛ raw (ensured 𝓤 H A g.ended (push-by-value Gives Said 𝓤 H) (κ₀, (κ₁, tt)) (x₀, (x₁, (h, (n, (v, tt))))) tt r)))) (id⊢ 𝓤 _) $ await ! tt $ pick ! (λ r.
           -- what g ensures, at some last lists
           split ! $ move ! (1 ∷ []) $ use1 W (some (λ (zs : List ℕ × (List ℕ × (Unit {0} × (Unit {0} × (Unit {0} × Unit {0}))))). ‵ (lasts g.ended (κ₀, (κ₁, tt)) (x₀, (x₁, (h, (n, (v, tt))))) zs) ⊛ raw (fact 𝓤 (outcome r (zs .0) (zs .1 .0) ≡ Gives (x₀ .now) (x₁ .now) h n v)))) (id⊢ 𝓤 _) $ pick ! (λ zs.
           split ! $ move ! (1 ∷ []) $ heard ! (outcome r (zs .0) (zs .1 .0) ≡ Gives (x₀ .now) (x₁ .now) h n v) (λ e. fsplit ! $ fsplit ! $ move ! (1 ∷ []) $ feqL ! (λ len₀. move ! (1 ∷ []) $ fsplit ! $ fsplit ! $ move ! (1 ∷ []) $ feqL ! (λ len₁.
@@ -173,15 +173,15 @@ module _ (Gives Said : Given-by) (so : (l₀ l₁ : List ℕ) (h : Book) (n v : 
           keep ! (0 ∷ 1 ∷ 2 ∷ 4 ∷ 7 ∷ 5 ∷ []) $ by ! (exits r w (zs .0) (zs .1 .0) e len₀ len₁ is))))))))))))))))))))))
 
   module _ {M : Type 1} (𝓤 : URA M) (H : Heap 𝓤) (A : Atoms 𝓤) (W : Given 𝓤 H A) where
-    walks : (C : Calls 𝓤 H) (Λ : Loops 𝓤 H) → FmC 𝓤 H (W .laws) C → Triple 𝓤 (C #g) (G Gives Said 𝓤 H A) → Walks 𝓤 H A f.ended stayed (WpFn 𝓤 H C Λ (lent-code #g)) (by-loan Gives Said 𝓤 H)
-    walks C Λ fm known = walked 𝓤 H A f.ended stayed (by-loan Gives Said 𝓤 H) (WpFn 𝓤 H C Λ (lent-code #g)) (λ κs. (slice-vals, (slice-vals, (ptr-vals, (uint-vals w16, (uint-vals w64, tt))))))
+    walks : (C : Calls 𝓤 H) (Λ : Loops 𝓤 H) → FmC 𝓤 H (W .laws) C → Triple 𝓤 (C #g) (CalledPush Gives Said 𝓤 H A) → Walks 𝓤 H A f.ended stayed (WpFn 𝓤 H C Λ (lent-code #g)) (push-by-loan Gives Said 𝓤 H)
+    walks C Λ fm known = walked 𝓤 H A f.ended stayed (push-by-loan Gives Said 𝓤 H) (WpFn 𝓤 H C Λ (lent-code #g)) (λ κs. (slice-vals, (slice-vals, (ptr-vals, (uint-vals w16, (uint-vals w64, tt))))))
         (λ κs. (mut-slice-tells (named 0) (κs .0) u16, (mut-slice-tells (named 1) (κs .1 .0) u64, (mut-tells (named 2) (κs .1 .1 .0) R, (uint-tells w16, (uint-tells w64, tt))))))
         (λ κs qs bounds a _ are. via 𝓤 _ (fst∗ 𝓤 _ (emp 𝓤)) (
         walk 𝓤 H A W (κs .0) (κs .1 .0) (κs .1 .1 .0) (qs .0) (qs .1 .0) (qs .1 .1 .0) (a .0) (a .1 .0) (a .1 .1 .0 .ptr .0) (a .1 .1 .0 .ptr .1) (a .1 .1 .0 .name) (a .1 .1 .0 .now) (a .1 .1 .1 .0) (a .1 .1 .1 .1 .0)
         (are .1 .1 .1 .0 .1) (are .1 .1 .1 .1 .0 .1) (are .0 .0 .1) (are .1 .0 .0 .1) C Λ fm known))
 
-    pub lent-meets : (𝓣 : Tables 𝓤 H) → Triple 𝓤 (𝓣 .C #g) (G Gives Said 𝓤 H A) → Meets 𝓤 H A f.signature (WpFn 𝓤 H (𝓣 .C) (𝓣 .Λ) (lent-code #g)) (closing 𝓤 H A f.ended (by-loan Gives Said 𝓤 H))
-    lent-meets 𝓣 known =
+    pub push-lent-meets : (𝓣 : Tables 𝓤 H) → Triple 𝓤 (𝓣 .C #g) (CalledPush Gives Said 𝓤 H A) → Meets 𝓤 H A f.signature (WpFn 𝓤 H (𝓣 .C) (𝓣 .Λ) (lent-code #g)) (closing 𝓤 H A f.ended (push-by-loan Gives Said 𝓤 H))
+    push-lent-meets 𝓣 known =
         walk-meets 𝓤 H A f.ended stayed W
         (goes-gave-slice 𝓤 H A W 3 0 tt (plain (λ _. u16)), (goes-gave-slice 𝓤 H A W 3 1 tt (plain (λ _. u64)), (goes-ref 𝓤 H A W 3 2 tt (plain (λ _. R)), (goes-none 𝓤 H A W 3 (λ _. u16) yes (λ κs x f. refl), (goes-none 𝓤 H A W 3 (λ _. u64) yes (λ κs x f. refl), tt)))))
-        (by-loan Gives Said 𝓤 H) (WpFn 𝓤 H (𝓣 .C) (𝓣 .Λ) (lent-code #g)) (WpFn-mono 𝓤 H (W .laws) 𝓣 (lent-code #g)) (walks (𝓣 .C) (𝓣 .Λ) (fmOf 𝓤 H (W .laws) 𝓣) known)
+        (push-by-loan Gives Said 𝓤 H) (WpFn 𝓤 H (𝓣 .C) (𝓣 .Λ) (lent-code #g)) (WpFn-mono 𝓤 H (W .laws) 𝓣 (lent-code #g)) (walks (𝓣 .C) (𝓣 .Λ) (fmOf 𝓤 H (W .laws) 𝓣) known)

@@ -7,24 +7,25 @@ use Rattle.books.specs.declared.Book.{Book}
 use Rattle.books.specs.declared.Refusal.{Refusal}
 use Rattle.books.specs.Book.{eight, bookOf}
 use Rattle.books.specs.Outcome.{Outcome, outcome}
-use Rattle.lists.specs.declared.End.the-variants.{Front, Back}
-use Rattle.shares.specs.declared.Answer.{Answer}
-use Rattle.shares.specs.declared.Popped.{Popped}
-use Rattle.shares.specs.declared.Value.{Value}
-use Rattle.shares.specs.Calls.{Called, asAnswer, asPopped, pushCall, popCall}
-use Rattle.shares.specs.Ten.{pushBackOf, pushFrontOf, popBackOf, popFrontOf}
-use Rattle.shares.specs.Done.{Refused}
-use Rattle.shares.proofs.Outcomes.{push-refused, pop-refused}
+use Rattle.shapes.specs.declared.End.the-variants.{Front, Back}
+use Rattle.books.specs.declared.Answer.{Answer}
+use Rattle.books.specs.declared.Popped.{Popped}
+use Rattle.books.specs.declared.Value.{Value}
+use Rattle.engines.specs.Calls.{Called, pushCall, popCall}
+use Rattle.xor.specs.Ten.{asAnswer, asPopped, pushBackOf, pushFrontOf, popBackOf, popFrontOf}
+use Rattle.engines.specs.Done.{Refused}
+use Rattle.engines.proofs.Outcomes.{push-refused, pop-refused}
+use Rattle.xor.specs.Engine.{xor}
 use Rattle.lent.specs.Lent.{pushed, popped}
 
 -- nothing is lost where an answer is put together
-pub pushed-plain : (r : Refusal) (k : Book) → (pushed r k .refusal ≡ r) × (pushed r k .book ≡ k)
-pushed-plain r k = (refl, refl)
+pub lent-pushed-plain : (r : Refusal) (k : Book) → (pushed r k .refusal ≡ r) × (pushed r k .book ≡ k)
+lent-pushed-plain r k = (refl, refl)
 
-pub popped-plain : (r : Value) (k : Book) → (popped r k .given ≡ r) × (popped r k .book ≡ k)
-popped-plain r k = (refl, refl)
+pub lent-popped-plain : (r : Value) (k : Book) → (popped r k .given ≡ r) × (popped r k .book ≡ k)
+lent-popped-plain r k = (refl, refl)
 
-module _ {links values : List ℕ} {b : Book} (c : Outcome Called) (f : c .answer .number ≢ 0 → Refused links values (eight b) c) {after left : List ℕ} {k : Book} where
+module _ {links values : List ℕ} {b : Book} (c : Called xor) (f : c .number ≢ 0 → Refused xor links values (eight b) c) {after left : List ℕ} {k : Book} where
   push-stays : {r : Refusal} → outcome (pushed r k) after left ≡ asAnswer c → r .number ≢ 0 → (k ≡ b) × (after ≡ links) × (left ≡ values)
   push-stays e d =
       let R = f (λ z. d (ap (λ (x : Outcome Answer). x .answer .refusal .number) e ∙ z)) in (
@@ -45,13 +46,13 @@ module _ {links values : List ℕ} {b : Book} (c : Outcome Called) (f : c .answe
 -- `r` is what a call returns, `k`, `after` and `left` the book and the slices that it leaves
 module _ (links values : List ℕ) (b : Book) (l : ℕ) {after left : List ℕ} {k : Book} where
   pub lent-push-back-refused : (value : ℕ) {r : Refusal} → outcome (pushed r k) after left ≡ pushBackOf links values b l value → r .number ≢ 0 → (k ≡ b) × (after ≡ links) × (left ≡ values)
-  lent-push-back-refused value = push-stays (pushCall links values (eight b) l Back value) (push-refused links values (eight b) l Back value)
+  lent-push-back-refused value = push-stays (pushCall xor links values (eight b) l Back value) (push-refused xor links values (eight b) l Back value)
 
   pub lent-push-front-refused : (value : ℕ) {r : Refusal} → outcome (pushed r k) after left ≡ pushFrontOf links values b l value → r .number ≢ 0 → (k ≡ b) × (after ≡ links) × (left ≡ values)
-  lent-push-front-refused value = push-stays (pushCall links values (eight b) l Front value) (push-refused links values (eight b) l Front value)
+  lent-push-front-refused value = push-stays (pushCall xor links values (eight b) l Front value) (push-refused xor links values (eight b) l Front value)
 
   pub lent-pop-back-refused : {r : Value} → outcome (popped r k) after left ≡ popBackOf links values b l → r .refusal .number ≢ 0 → (r .value ≡ 0) × (k ≡ b) × (after ≡ links) × (left ≡ values)
-  lent-pop-back-refused = pop-stays (popCall links values (eight b) l Back) (pop-refused links values (eight b) l Back)
+  lent-pop-back-refused = pop-stays (popCall xor links values (eight b) l Back) (pop-refused xor links values (eight b) l Back)
 
   pub lent-pop-front-refused : {r : Value} → outcome (popped r k) after left ≡ popFrontOf links values b l → r .refusal .number ≢ 0 → (r .value ≡ 0) × (k ≡ b) × (after ≡ links) × (left ≡ values)
-  lent-pop-front-refused = pop-stays (popCall links values (eight b) l Front) (pop-refused links values (eight b) l Front)
+  lent-pop-front-refused = pop-stays (popCall xor links values (eight b) l Front) (pop-refused xor links values (eight b) l Front)

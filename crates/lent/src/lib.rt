@@ -2,10 +2,10 @@
 // They are exported under their own names. What C owes and no proof sees: pointers that are aligned and not null, true lengths, and links, values and a book that do not overlap.
 use books::Book;
 use books::Refusal;
-use shares::Value;
+use books::Value;
 ghost use mathlib.Core.Path.{_≡_};
 ghost use Rattle.books.specs.Outcome.{outcome};
-ghost use Rattle.shares.specs.Ten.{pushBackOf, pushFrontOf, popBackOf, popFrontOf};
+ghost use Rattle.xor.specs.Ten.{pushBackOf, pushFrontOf, popBackOf, popFrontOf};
 ghost use Rattle.lent.specs.Lent.{pushed, popped};
 
 // `shares::ends::push_back` on the book that is lent. Refused by 1, 3, 4, 6 or 7; neither the book nor a slice changes then.

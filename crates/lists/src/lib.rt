@@ -2,32 +2,15 @@
 use books::Book;
 use books::Entry;
 use books::Free;
-use slots::Released;
-use slots::Taken;
+use shapes::End;
+use shapes::PopStep;
+use shapes::PushStep;
+use shapes::Released;
+use shapes::Taken;
 ghost use mathlib.Core.Path.{_≡_};
 ghost use Rattle.books.specs.Outcome.{outcome};
-ghost use Rattle.lists.specs.Model.{newOf, nearOf, withNear, withBoth, emptied, isBeside, donePush, refusedPush, pushEmptyOf, pushBesideOf, pushOf, donePop, refusedPop, popOf};
-
-// The end of a list at which a step works.
-pub enum End {
-    Front,
-    Back,
-}
-
-// Whether the value was pushed, and the list and the idle chain then.
-pub struct Pushed {
-    pub done: bool,
-    pub entry: Entry,
-    pub free: Free,
-}
-
-// Whether a value was popped, which, and the list and the idle chain then.
-pub struct Popped {
-    pub done: bool,
-    pub value: u64,
-    pub entry: Entry,
-    pub free: Free,
-}
+ghost use Rattle.shapes.specs.Ends.{newOf, nearOf, withNear, withBoth, emptied};
+ghost use Rattle.xor.specs.Steps.{isBeside, donePush, refusedPush, pushEmptyOf, pushBesideOf, pushOf, donePop, refusedPop, popOf};
 
 // The empty list.
 pub fn new(share: u16, limit: u16) -> Entry
@@ -49,7 +32,7 @@ pub fn push_empty_case(
     list: Entry,
     free: Free,
     value: u64,
-) -> Pushed
+) -> PushStep
     ensures { λ r. ⌜ outcome r (now (links .exit)) (now (values .exit)) ≡ pushEmptyOf (now (links .entry)) (now (values .entry)) list free value ⌝ }
 {
     if list.tail != Book::NULL {
@@ -71,21 +54,21 @@ pub fn push_back(
     list: Entry,
     free: Free,
     value: u64,
-) -> Pushed
+) -> PushStep
     ensures { λ r. ⌜ outcome r (now (links .exit)) (now (values .exit)) ≡ pushOf End.Back (now (links .entry)) (now (values .entry)) list free value ⌝ }
 {
     push(links, values, End::Back, list, free, value)
 }
 
 // Refused where the end slot is no slot, or where its neighbour is neither null nor another slot; nothing changes then.
-pub fn pop_back(links: &mut [u16], values: &mut [u64], list: Entry, free: Free) -> Popped
+pub fn pop_back(links: &mut [u16], values: &mut [u64], list: Entry, free: Free) -> PopStep
     ensures { λ r. ⌜ outcome r (now (links .exit)) (now (values .exit)) ≡ popOf End.Back (now (links .entry)) (now (values .entry)) list free ⌝ }
 {
     pop(links, values, End::Back, list, free)
 }
 
 // Refused as `pop_back` is, at the other end.
-pub fn pop_front(links: &mut [u16], values: &mut [u64], list: Entry, free: Free) -> Popped
+pub fn pop_front(links: &mut [u16], values: &mut [u64], list: Entry, free: Free) -> PopStep
     ensures { λ r. ⌜ outcome r (now (links .exit)) (now (values .exit)) ≡ popOf End.Front (now (links .entry)) (now (values .entry)) list free ⌝ }
 {
     pop(links, values, End::Front, list, free)
@@ -98,7 +81,7 @@ pub fn push_front(
     list: Entry,
     free: Free,
     value: u64,
-) -> Pushed
+) -> PushStep
     ensures { λ r. ⌜ outcome r (now (links .exit)) (now (values .exit)) ≡ pushOf End.Front (now (links .entry)) (now (values .entry)) list free value ⌝ }
 {
     push(links, values, End::Front, list, free, value)
@@ -168,30 +151,30 @@ fn is_beside(links: &[u16], values: &[u64], near: u16, slot: u16) -> bool
     slots::in_pool(links, values, near)
 }
 
-fn done_push(list: Entry, free: Free) -> Pushed
+fn done_push(list: Entry, free: Free) -> PushStep
     ensures { λ r. ⌜ r ≡ donePush list free ⌝ }
 {
-    Pushed {
+    PushStep {
         done: true,
         entry: list,
         free,
     }
 }
 
-fn refused_push(list: Entry, free: Free) -> Pushed
+fn refused_push(list: Entry, free: Free) -> PushStep
     ensures { λ r. ⌜ r ≡ refusedPush list free ⌝ }
 {
-    Pushed {
+    PushStep {
         done: false,
         entry: list,
         free,
     }
 }
 
-fn refused_pop(list: Entry, free: Free) -> Popped
+fn refused_pop(list: Entry, free: Free) -> PopStep
     ensures { λ r. ⌜ r ≡ refusedPop list free ⌝ }
 {
-    Popped {
+    PopStep {
         done: false,
         value: 0,
         entry: list,
@@ -200,11 +183,11 @@ fn refused_pop(list: Entry, free: Free) -> Popped
 }
 
 // The value of a slot that was released, with the list as it is then.
-fn done_pop(value: u64, list: Entry, freed: Released) -> Popped
+fn done_pop(value: u64, list: Entry, freed: Released) -> PopStep
     ensures { λ r. ⌜ r ≡ donePop value list freed ⌝ }
 {
     let rest = freed.free;
-    Popped {
+    PopStep {
         done: freed.done,
         value,
         entry: list,
@@ -220,7 +203,7 @@ fn push(
     list: Entry,
     free: Free,
     value: u64,
-) -> Pushed
+) -> PushStep
     ensures { λ r. ⌜ outcome r (now (links .exit)) (now (values .exit)) ≡ pushOf end (now (links .entry)) (now (values .entry)) list free value ⌝ }
 {
     if list.tail == Book::NULL {
@@ -238,7 +221,7 @@ fn push_beside(
     list: Entry,
     free: Free,
     value: u64,
-) -> Pushed
+) -> PushStep
     ensures { λ r. ⌜ outcome r (now (links .exit)) (now (values .exit)) ≡ pushBesideOf end (now (links .entry)) (now (values .entry)) list free value ⌝ }
 {
     let Taken::Slot(slot, rest) = slots::take(links, values, free) else {
@@ -257,7 +240,7 @@ fn push_beside(
 }
 
 // The slot at an end leaves the list. All tests stand before the first store.
-fn pop(links: &mut [u16], values: &mut [u64], end: End, list: Entry, free: Free) -> Popped
+fn pop(links: &mut [u16], values: &mut [u64], end: End, list: Entry, free: Free) -> PopStep
     ensures { λ r. ⌜ outcome r (now (links .exit)) (now (values .exit)) ≡ popOf end (now (links .entry)) (now (values .entry)) list free ⌝ }
 {
     let old = near_of(end, list);
@@ -275,7 +258,7 @@ fn pop(links: &mut [u16], values: &mut [u64], end: End, list: Entry, free: Free)
         return refused_pop(list, free);
     }
     let freed = slots::release(links, values, old, free);
-    let j = books::wide(near);
+    let j = rules::wide(near);
     links[j] = links[j] ^ old;
     done_pop(value, with_near(end, near, list), freed)
 }

@@ -1,8 +1,8 @@
 // The text of every number from 0 to 8, and of two numbers that this version does not know, each on a line after its number.
 ghost use Prim.Native.Nat.{_+_, _≤_};
 ghost use lib.ListN.{length};
-ghost use Rattle.digits.specs.Digits.{Written};
-ghost use Rattle.notices.specs.Notices.{noticeOf, allNotices};
+ghost use Rattle.wording.specs.Digits.{Written};
+ghost use Rattle.wording.specs.Notices.{noticeOf, allNotices};
 
 fn main() {
     let mut out = [0u8; 960];

@@ -3,6 +3,10 @@ use books::Book;
 use books::Entry;
 use books::Free;
 use books::Refusal;
+use shapes::Fault;
+use shapes::Found;
+use shapes::Gathered;
+use shapes::Looked;
 ghost use mathlib.Core.Path.{_≡_};
 ghost use mathlib.Core.Bool.{cond, _&&_};
 ghost use Prim.Native.Nat.{_+_, _-_, _≤_, _<_};
@@ -10,50 +14,17 @@ ghost use lib.Dec.{eqb, ltb};
 ghost use lib.ListN.{length, take};
 ghost use Rattle.books.specs.Book.{eight};
 ghost use Rattle.books.specs.Rules.{Size};
-ghost use Rattle.slots.specs.Met.{unmet};
-ghost use Rattle.slots.specs.Walk.{idlePath};
-ghost use Rattle.pools.specs.Size.{SizesFit};
-ghost use Rattle.pools.specs.Check.{fault, gatherOne, gatherFault, gatheredNone, round, gatherAll, nothingMet, faulty, nullSlotZero, lowestUnmet, idleFault, spareFault, idleFound, poolFound, checkFound, refusedBy, lookOf};
-
-// The first rule that is broken, with a list and a place, 0 where none applies. Rule 0 is no fault. No call hands it out yet.
-// 9 is L, shares and limits; 10 slot 0; 11 a live chain; 12 the idle chain; 13 a slot in no chain; 14 a free slot that is not wiped; 15 limits and shares.
-#[repr(C)]
-pub struct Fault {
-    pub rule: u16,
-    pub list: u16,
-    pub place: usize,
-}
-
-// What the walks along the lists so far have gathered: the fault, if there was one; how many slots are live; what the lists lack of
-// their shares; the lowest list over its limit, or L; and the length of the list that is asked for.
-pub struct Gathered {
-    pub fault: Fault,
-    pub live: usize,
-    pub lacks: usize,
-    pub over: u16,
-    pub length: usize,
-}
-
-// What the check finds: the fault, if there is one, and else the length of the list that is asked for, what the lists lack of their
-// shares, and how many slots are free.
-pub struct Found {
-    pub fault: Fault,
-    pub length: usize,
-    pub lacks: usize,
-    pub free: usize,
-}
-
-// A number, and what the check found: nothing where the number is not 0. `look` gives 1, 3 or 0; a caller may refuse by more.
-pub struct Looked {
-    pub refusal: Refusal,
-    pub found: Found,
-}
+ghost use Rattle.shapes.specs.Met.{unmet};
+ghost use Rattle.shapes.specs.Faults.{fault, gatherOne, gatherFault, gatheredNone, round, nothingMet, faulty, lowestUnmet, idleFault, spareFault, refusedBy};
+ghost use Rattle.engines.specs.Sound.{Fit};
+ghost use Rattle.engines.specs.Check.{gatherAll, nullSlotZero, idlePath, idleFound, poolFound, checkFound, lookOf};
+ghost use Rattle.xor.specs.Engine.{xor};
 
 // How much of its share a list lacks: share less length, or 0.
 fn lack(share: u16, many: usize) -> usize
     ensures { λ r. ⌜ (r ≡ share - many) × (r < 65536) ⌝ }
 {
-    let whole = books::wide(share);
+    let whole = rules::wide(share);
     if many < whole {
         return whole - many;
     }
@@ -64,7 +35,7 @@ fn lack(share: u16, many: usize) -> usize
 fn over_of(count: u16, list: u16, limit: u16, many: usize, over: u16) -> u16
     ensures { λ r. ⌜ r ≡ cond (eqb over count && ltb limit many) list over ⌝ }
 {
-    let most = books::wide(limit);
+    let most = rules::wide(limit);
     if over == count {
         if most < many {
             return list;
@@ -144,12 +115,12 @@ fn gathered_none(count: u16) -> Gathered
 // `books`.
 fn gather(links: &[u16], met: &mut [u8], count: u16, entries: [Entry; 8], wanted: u16) -> Gathered
     requires { ⌜ count ≤ 8 ⌝ }
-    ensures { λ r. ⌜ round r (now (met .exit)) ≡ gatherAll wanted count (now (links .entry)) 0 (take count entries) (now (met .entry)) (gatheredNone count) ⌝ }
+    ensures { λ r. ⌜ round r (now (met .exit)) ≡ gatherAll xor wanted count (now (links .entry)) 0 (take count entries) (now (met .entry)) (gatheredNone count) ⌝ }
 {
     let mut g = gathered_none(count);
     let mut list: u16 = 0;
     while list < count {
-        let k = books::wide(list);
+        let k = rules::wide(list);
         let entry = Entry {
             head: entries[k].head,
             tail: entries[k].tail,
@@ -180,7 +151,7 @@ fn faulty(rule: u16, list: u16, place: usize) -> Found
 // Has slot 0 link 0 and value 0?
 fn null_slot_zero(links: &[u16], values: &[u64]) -> bool
     requires { ⌜ (0 < length (now links)) × (0 < length (now values)) ⌝ }
-    ensures { λ r. ⌜ r ≡ nullSlotZero (now (links .entry)) (now (values .entry)) ⌝ }
+    ensures { λ r. ⌜ r ≡ nullSlotZero xor (now (links .entry)) (now (values .entry)) ⌝ }
 {
     if links[0] == 0 {
         return values[0] == 0;
@@ -234,7 +205,7 @@ fn idle_fault(
         return Fault {
             rule: 14,
             list: 0,
-            place: books::wide(unwiped),
+            place: rules::wide(unwiped),
         };
     }
     spare_fault(count, g.over, g.lacks, free)
@@ -275,7 +246,7 @@ fn find_idle(
     g: Gathered,
 ) -> Found
     requires { ⌜ Size (length (now links)) × (g .live + unmet (now met) ≤ length (now links)) ⌝ }
-    ensures { λ r. ⌜ r ≡ idleFound (now (links .entry)) (now (values .entry)) count (round g (now (met .entry))) (idlePath (now (links .entry)) (now (values .entry)) (now (met .entry)) free) ⌝ }
+    ensures { λ r. ⌜ r ≡ idleFound (length (now (links .entry))) (now (values .entry)) free count (round g (now (met .entry))) (idlePath xor (now (links .entry)) (now (values .entry)) (now (met .entry)) free) ⌝ }
 {
     let idle = walks::walk::walk_idle(links, values, met, free);
     let many = idle.length;
@@ -290,8 +261,8 @@ fn find_idle(
 
 // Rules 10 to 15, with the record of slots met.
 fn find_over(links: &[u16], values: &[u64], met: &mut [u8], book: Book, wanted: u16) -> Found
-    requires { ⌜ SizesFit (length (now links)) (length (now values)) × (now met ≡ nothingMet (length (now links))) × (book .lists ≤ 8) ⌝ }
-    ensures { λ r. ⌜ r ≡ poolFound wanted (now (links .entry)) (now (values .entry)) (take (book .lists) (book .entries)) (book .free) ⌝ }
+    requires { ⌜ Fit xor (now links) (now values) × (now met ≡ nothingMet (length (now links))) × (book .lists ≤ 8) ⌝ }
+    ensures { λ r. ⌜ r ≡ poolFound xor wanted (now (links .entry)) (now (values .entry)) (take (book .lists) (book .entries)) (book .free) ⌝ }
 {
     if !null_slot_zero(links, values) {
         return faulty(10, 0, 0);
@@ -310,10 +281,10 @@ fn find_over(links: &[u16], values: &[u64], met: &mut [u8], book: Book, wanted: 
 
 // The whole check, rule 9 first. The record may be longer than the pool. It is cut to the pool's size: a walk goes over no other.
 fn find(links: &[u16], values: &[u64], met: &mut [u8], book: Book, wanted: u16) -> Found
-    requires { ⌜ SizesFit (length (now links)) (length (now values)) × (length (now links) ≤ length (now met)) × (now met ≡ nothingMet (length (now met))) ⌝ }
-    ensures { λ r. ⌜ r ≡ checkFound wanted (now (links .entry)) (now (values .entry)) (eight book) ⌝ }
+    requires { ⌜ Fit xor (now links) (now values) × (length (now links) ≤ length (now met)) × (now met ≡ nothingMet (length (now met))) ⌝ }
+    ensures { λ r. ⌜ r ≡ checkFound xor wanted (now (links .entry)) (now (values .entry)) (eight book) ⌝ }
 {
-    if !book.keeps_rules(links.len()) {
+    if !rules::keeps_rules(book, links.len()) {
         return faulty(9, 0, 0);
     }
     find_over(links, values, &mut met[..links.len()], book, wanted)
@@ -332,7 +303,7 @@ pub fn refused(number: u16) -> Looked
 // `look`, with a record that has a place for each slot, and nothing met.
 fn look_over(links: &[u16], values: &[u64], met: &mut [u8], book: Book, wanted: u16) -> Looked
     requires { ⌜ (Size (length (now links)) → length (now links) ≤ length (now met)) × (now met ≡ nothingMet (length (now met))) ⌝ }
-    ensures { λ r. ⌜ r ≡ lookOf wanted (now (links .entry)) (now (values .entry)) (eight book) ⌝ }
+    ensures { λ r. ⌜ r ≡ lookOf xor wanted (now (links .entry)) (now (values .entry)) (eight book) ⌝ }
 {
     if !crate::sizes_fit(links.len(), values.len()) {
         return refused(1);
@@ -351,7 +322,7 @@ fn look_over(links: &[u16], values: &[u64], met: &mut [u8], book: Book, wanted: 
 // Up to 256 slots: the record is made here, one byte for each slot, and lent on.
 fn look_small(links: &[u16], values: &[u64], book: Book, wanted: u16) -> Looked
     requires { ⌜ length (now links) ≤ 256 ⌝ }
-    ensures { λ r. ⌜ r ≡ lookOf wanted (now (links .entry)) (now (values .entry)) (eight book) ⌝ }
+    ensures { λ r. ⌜ r ≡ lookOf xor wanted (now (links .entry)) (now (values .entry)) (eight book) ⌝ }
 {
     let mut met = [0u8; 256];
     look_over(links, values, &mut met, book, wanted)
@@ -360,7 +331,7 @@ fn look_small(links: &[u16], values: &[u64], book: Book, wanted: u16) -> Looked
 // The same for any pool. To clear this record costs as much as to walk along dozens of slots, so small pools have a smaller one.
 // It saves no stack: the two have one place in the frame.
 fn look_large(links: &[u16], values: &[u64], book: Book, wanted: u16) -> Looked
-    ensures { λ r. ⌜ r ≡ lookOf wanted (now (links .entry)) (now (values .entry)) (eight book) ⌝ }
+    ensures { λ r. ⌜ r ≡ lookOf xor wanted (now (links .entry)) (now (values .entry)) (eight book) ⌝ }
 {
     let mut met = [0u8; 4096];
     look_over(links, values, &mut met, book, wanted)
@@ -368,7 +339,7 @@ fn look_large(links: &[u16], values: &[u64], book: Book, wanted: u16) -> Looked
 
 // 1 where the sizes do not fit, 3 where the pool is not sound; else 0, and what the check found.
 pub fn look(links: &[u16], values: &[u64], book: Book, wanted: u16) -> Looked
-    ensures { λ r. ⌜ r ≡ lookOf wanted (now (links .entry)) (now (values .entry)) (eight book) ⌝ }
+    ensures { λ r. ⌜ r ≡ lookOf xor wanted (now (links .entry)) (now (values .entry)) (eight book) ⌝ }
 {
     if links.len() <= 256 {
         return look_small(links, values, book, wanted);

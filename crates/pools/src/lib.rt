@@ -1,16 +1,17 @@
 // Layer 3: the pool and its book as a whole. Which pools are sound, and the check that tells.
-use books::Book;
 ghost use mathlib.Core.Path.{_≡_};
-ghost use Rattle.pools.specs.Size.{sizesFit};
+ghost use mathlib.Core.Bool.{_&&_};
+ghost use lib.Dec.{eqb};
+ghost use Rattle.books.specs.Test.{sizeFits};
 
 pub mod check;
 
 // Number 1 is given exactly where this is false.
 pub fn sizes_fit(links: usize, values: usize) -> bool
-    ensures { λ r. ⌜ r ≡ sizesFit links values ⌝ }
+    ensures { λ r. ⌜ r ≡ (eqb links values && sizeFits links) ⌝ }
 {
     if links != values {
         return false;
     }
-    Book::size_fits(links)
+    rules::size_fits(links)
 }

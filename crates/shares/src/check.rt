@@ -2,7 +2,7 @@
 use books::Book;
 use books::Refusal;
 ghost use mathlib.Core.Path.{_≡_};
-ghost use Rattle.shares.specs.Ten.{checkOf};
+ghost use Rattle.xor.specs.Ten.{checkOf};
 
 // Is the pool sound? 0 where it is; 1 where the sizes do not fit, 3 where it is not sound. Neither the pool nor the book changes.
 pub fn check(links: &[u16], values: &[u64], book: Book) -> Refusal

@@ -1,10 +1,10 @@
 // Clear: a list is emptied, and every slot that it held is wiped and free.
-use crate::Answer;
+use books::Answer;
 use books::Book;
 use books::Refusal;
 ghost use mathlib.Core.Path.{_≡_};
 ghost use Rattle.books.specs.Outcome.{outcome};
-ghost use Rattle.shares.specs.Ten.{clearOf};
+ghost use Rattle.xor.specs.Ten.{clearOf};
 
 // Refused by 1, 3 or 4; the book comes back as it went in then, and neither slice changes. An empty list is cleared too.
 pub fn clear(links: &mut [u16], values: &mut [u64], book: Book, list: u16) -> Answer
@@ -16,7 +16,7 @@ pub fn clear(links: &mut [u16], values: &mut [u64], book: Book, list: u16) -> An
         return Answer { refusal, book };
     }
     let found = seen.found;
-    let k = books::wide(list);
+    let k = rules::wide(list);
     let entry = book.entries[k];
     let free = book.free;
     let gone = walks::clear::clear(links, values, entry, free, found.length);

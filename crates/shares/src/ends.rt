@@ -1,18 +1,20 @@
 // The four calls at an end of a list: push back, push front, pop back, pop front.
-use crate::Answer;
-use crate::Popped;
-use crate::Value;
+use books::Answer;
 use books::Book;
 use books::Entry;
 use books::Free;
+use books::Popped;
 use books::Refusal;
-use lists::End;
+use books::Value;
+use shapes::End;
 ghost use mathlib.Core.Path.{_≡_};
 ghost use Rattle.books.specs.Book.{eight, bookOf};
 ghost use Rattle.books.specs.Outcome.{outcome};
-ghost use Rattle.lists.specs.Model.{pushOf, popOf};
-ghost use Rattle.shares.specs.Calls.{withList, asAnswer, asPopped, pushCall, popCall};
-ghost use Rattle.shares.specs.Ten.{pushBackOf, pushFrontOf, popBackOf, popFrontOf};
+ghost use Rattle.xor.specs.Steps.{pushOf, popOf};
+ghost use Rattle.shapes.specs.Changes.{withList};
+ghost use Rattle.engines.specs.Calls.{pushCall, popCall};
+ghost use Rattle.xor.specs.Engine.{xor};
+ghost use Rattle.xor.specs.Ten.{asAnswer, asPopped, pushBackOf, pushFrontOf, popBackOf, popFrontOf};
 
 // Refused by 1, 3, 4, 6 or 7; the book comes back as it went in then, and neither slice changes.
 pub fn push_back(links: &mut [u16], values: &mut [u64], book: Book, list: u16, value: u64) -> Answer
@@ -57,7 +59,7 @@ fn push(
     list: u16,
     value: u64,
 ) -> Answer
-    ensures { λ r. ⌜ outcome r (now (links .exit)) (now (values .exit)) ≡ asAnswer (pushCall (now (links .entry)) (now (values .entry)) (eight book) list end value) ⌝ }
+    ensures { λ r. ⌜ outcome r (now (links .exit)) (now (values .exit)) ≡ asAnswer (pushCall xor (now (links .entry)) (now (values .entry)) (eight book) list end value) ⌝ }
 {
     let seen = pools::check::look(links, values, book, list);
     let refusal = seen.refusal;
@@ -69,7 +71,7 @@ fn push(
         };
     }
     let found = seen.found;
-    let k = books::wide(list);
+    let k = rules::wide(list);
     let entry = book.entries[k];
     let number = crate::refusals::push_number(entry, found.length, found.lacks, found.free);
     if number != 0 {
@@ -87,7 +89,7 @@ fn push(
 }
 
 fn pop(links: &mut [u16], values: &mut [u64], end: End, book: Book, list: u16) -> Popped
-    ensures { λ r. ⌜ outcome r (now (links .exit)) (now (values .exit)) ≡ asPopped (popCall (now (links .entry)) (now (values .entry)) (eight book) list end) ⌝ }
+    ensures { λ r. ⌜ outcome r (now (links .exit)) (now (values .exit)) ≡ asPopped (popCall xor (now (links .entry)) (now (values .entry)) (eight book) list end) ⌝ }
 {
     let seen = pools::check::look(links, values, book, list);
     let refusal = seen.refusal;
@@ -100,7 +102,7 @@ fn pop(links: &mut [u16], values: &mut [u64], end: End, book: Book, list: u16) -
     if number != 0 {
         return refused_pop(number, book);
     }
-    let k = books::wide(list);
+    let k = rules::wide(list);
     let entry = book.entries[k];
     let free = book.free;
     let gone = pop_at(links, values, end, entry, free);
@@ -144,7 +146,7 @@ fn push_at(
     entry: Entry,
     free: Free,
     value: u64,
-) -> lists::Pushed
+) -> shapes::PushStep
     ensures { λ r. ⌜ outcome r (now (links .exit)) (now (values .exit)) ≡ pushOf end (now (links .entry)) (now (values .entry)) entry free value ⌝ }
 {
     match end {
@@ -159,7 +161,7 @@ fn pop_at(
     end: End,
     entry: Entry,
     free: Free,
-) -> lists::Popped
+) -> shapes::PopStep
     ensures { λ r. ⌜ outcome r (now (links .exit)) (now (values .exit)) ≡ popOf end (now (links .entry)) (now (values .entry)) entry free ⌝ }
 {
     match end {

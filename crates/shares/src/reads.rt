@@ -1,13 +1,15 @@
 // Length, read forward and read backward, which change neither the pool nor the book.
-use crate::Length;
-use crate::Read;
 use books::Book;
+use books::Length;
+use books::Read;
 use books::Refusal;
-use lists::End;
+use shapes::End;
 ghost use mathlib.Core.Path.{_≡_};
 ghost use Rattle.books.specs.Book.{eight};
-ghost use Rattle.shares.specs.Calls.{readLeft, readOf, readCall};
-ghost use Rattle.shares.specs.Ten.{lengthOf, readForwardOf, readBackwardOf};
+ghost use Rattle.shapes.specs.Tests.{readLeft, readOf};
+ghost use Rattle.engines.specs.Calls.{readCall};
+ghost use Rattle.xor.specs.Engine.{xor};
+ghost use Rattle.xor.specs.Ten.{lengthOf, readForwardOf, readBackwardOf};
 
 // How many slots a list has. Refused by 1, 3 or 4, with length 0.
 pub fn length(links: &[u16], values: &[u64], book: Book, list: u16) -> Length
@@ -63,7 +65,7 @@ fn read(
     buffer: &mut [u64],
     at: usize,
 ) -> Read
-    ensures { λ r. ⌜ readLeft r (now (buffer .exit)) ≡ readCall (now (links .entry)) (now (values .entry)) (eight book) list end (now (buffer .entry)) at ⌝ }
+    ensures { λ r. ⌜ readLeft r (now (buffer .exit)) ≡ readCall xor (now (links .entry)) (now (values .entry)) (eight book) list end (now (buffer .entry)) at ⌝ }
 {
     let seen = crate::refusals::on_list(links, values, book, list);
     let refusal = seen.refusal;
@@ -75,7 +77,7 @@ fn read(
     if number != 0 {
         return refused(number);
     }
-    let k = books::wide(list);
+    let k = rules::wide(list);
     let entry = book.entries[k];
     let count = walks::reads::read(links, values, lists::near_of(end, entry), buffer, at);
     let many = count as u16;

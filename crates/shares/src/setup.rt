@@ -1,5 +1,5 @@
 // Setup: every slot from 1 on is idle, in order, and the lists are empty.
-use crate::Answer;
+use books::Answer;
 use books::Book;
 use books::Entry;
 use books::Free;
@@ -9,8 +9,11 @@ ghost use Prim.Native.Nat.{_≤_, _<_};
 ghost use lib.ListN.{length};
 ghost use Rattle.books.specs.Tabulate.{tabulate};
 ghost use Rattle.books.specs.Outcome.{outcome};
-ghost use Rattle.shares.specs.Setup.{freshLink, freshValue, freshBook, freshEntries, answered, setupOf};
-ghost use Rattle.books.specs.Book.{zeroBook};
+ghost use Rattle.engines.specs.Calls.{freshBookOf};
+ghost use Rattle.xor.specs.Engine.{freshLink};
+ghost use Rattle.xor.specs.Ten.{setupOf};
+ghost use Rattle.shapes.specs.Setup.{freshValue, freshEntry};
+ghost use Rattle.books.specs.Book.{mostLists, zeroBook, bookOf};
 
 // Refused by 1 where the slices differ in length or the size does not fit, by 2 where L, shares or limits break the book rules;
 // the all-zero book comes back then, and neither slice changes. What the slices held before is ignored and overwritten.
@@ -27,7 +30,7 @@ pub fn setup(
         return refused(1);
     }
     let book = fresh_book(lists, shares, limits);
-    if !book.keeps_rules(links.len()) {
+    if !rules::keeps_rules(book, links.len()) {
         return refused(2);
     }
     fresh_links(links);
@@ -39,7 +42,7 @@ pub fn setup(
 }
 
 fn refused(number: u16) -> Answer
-    ensures { λ r. ⌜ r ≡ answered number zeroBook ⌝ }
+    ensures { λ r. ⌜ r ≡ record { refusal = record { number = number }; book = zeroBook } ⌝ }
 {
     Answer {
         refusal: Refusal { number },
@@ -48,7 +51,7 @@ fn refused(number: u16) -> Answer
 }
 
 fn fresh_book(lists: u16, shares: [u16; 8], limits: [u16; 8]) -> Book
-    ensures { λ r. ⌜ r ≡ freshBook lists shares limits ⌝ }
+    ensures { λ r. ⌜ r ≡ bookOf (freshBookOf mostLists lists shares limits) ⌝ }
 {
     Book {
         lists,
@@ -58,7 +61,7 @@ fn fresh_book(lists: u16, shares: [u16; 8], limits: [u16; 8]) -> Book
 }
 
 fn fresh_entries(shares: [u16; 8], limits: [u16; 8]) -> [Entry; 8]
-    ensures { λ r. ⌜ r ≡ freshEntries shares limits ⌝ }
+    ensures { λ r. ⌜ r ≡ tabulate mostLists (freshEntry shares limits) ⌝ }
 {
     let none = Entry::zero();
     let mut entries = [none; 8];

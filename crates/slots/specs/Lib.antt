@@ -1,6 +1,2 @@
--- What a reader of the slot layer believes: which numbers are slots, what taking and releasing one give, the record of slots met, and the walk along a chain.
-pub mod Slot
-pub mod Model
-pub mod Meaning
-pub mod Met
+-- What the code of the slots asks for beside the definitions below it.
 pub mod Walk

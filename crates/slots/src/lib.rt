@@ -4,22 +4,12 @@ pub mod walk;
 
 use books::Book;
 use books::Free;
+use shapes::Released;
+use shapes::Taken;
 ghost use mathlib.Core.Path.{_≡_};
-ghost use Rattle.slots.specs.Slot.{inPool};
+ghost use Rattle.xor.specs.Slot.{inPool};
 ghost use Rattle.books.specs.Outcome.{outcome};
-ghost use Rattle.slots.specs.Model.{saidBy, takeOf, releaseOf};
-
-// A slot with the idle chain that is left, or none.
-pub enum Taken {
-    Slot(u16, Free),
-    Nothing,
-}
-
-// Whether the slot was released, and the idle chain then.
-pub struct Released {
-    pub done: bool,
-    pub free: Free,
-}
+ghost use Rattle.xor.specs.Slots.{saidBy, takeOf, releaseOf};
 
 // Is `slot` from 1 to N-1, so that both of its cells are there?
 pub fn in_pool(links: &[u16], values: &[u64], slot: u16) -> bool

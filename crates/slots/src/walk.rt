@@ -1,6 +1,7 @@
 // The walk along the idle chain: each slot that it passes is marked, and the lowest one that is not wiped is gathered.
 use books::Book;
 use books::Free;
+use shapes::IdleWalk;
 ghost use mathlib.Core.Path.{_≡_};
 ghost use mathlib.Core.Bool.{false, not};
 ghost use mathlib.Core.List.{[], _∷_};
@@ -8,22 +9,18 @@ ghost use Prim.Native.Nat.{_<_};
 ghost use lib.ListN.{length};
 ghost use Rattle.books.specs.Book.{nullSlot};
 ghost use Rattle.chains.specs.Chain.{cell};
-ghost use Rattle.slots.specs.Met.{isMetOf, unmarked};
-ghost use Rattle.slots.specs.Walk.{unwipedFrom, idleFirst, IdleWalked};
-
-// Whether the walk came to the end, how many slots it passed, and the lowest of them that is not wiped, or 0.
-pub struct IdleWalk {
-    pub ok: bool,
-    pub length: usize,
-    pub unwiped: u16,
-}
+ghost use Rattle.shapes.specs.Met.{isMetOf, unmarked};
+ghost use Rattle.shapes.specs.Walk.{unwipedFrom};
+ghost use Rattle.slots.specs.Walk.{idleFirst};
+ghost use Rattle.engines.specs.Walked.{IdleWalked};
+ghost use Rattle.xor.specs.Engine.{xor};
 
 // The slots of the idle chain are passed and marked. A slot of N or more, or one that was met, ends the walk before it is passed.
 // The null slot is marked while the walk goes, so that one test sees all three: the record has no place for a slot of N or more.
 // Refused, and nothing changes, where the two slices differ in length or the record is not walkable.
 // A slot is kept as an index, widened when it is read, as in `walk_live`.
 pub fn walk_idle(links: &[u16], values: &[u64], met: &mut [u8], free: Free) -> IdleWalk
-    ensures { λ r. ⌜ IdleWalked (now (links .entry)) (now (values .entry)) (now (met .entry)) free r (now (met .exit)) ⌝ }
+    ensures { λ r. ⌜ IdleWalked xor (now (links .entry)) (now (values .entry)) (now (met .entry)) free r (now (met .exit)) ⌝ }
 {
     if links.len() != values.len() {
         return refused();
@@ -32,14 +29,14 @@ pub fn walk_idle(links: &[u16], values: &[u64], met: &mut [u8], free: Free) -> I
         return refused();
     }
     met[0] = 1;
-    let mut slot = books::wide(free.head);
+    let mut slot = rules::wide(free.head);
     let mut length: usize = 0;
     let mut unlike: u64 = 0;
     while !crate::met::is_met(met, slot) {
         met[slot] = 1;
         unlike = unlike | (values[slot] ^ Book::WIPE);
         length += 1;
-        slot = books::wide(links[slot]);
+        slot = rules::wide(links[slot]);
     }
     ended(links, values, met, free, slot, length, unlike)
 }
@@ -121,7 +118,7 @@ fn gather(values: &[u64], slot: u16, least: u16) -> u16
 fn value_of(values: &[u64], slot: u16) -> u64
     ensures { λ r. ⌜ r ≡ cell (now (values .entry)) slot ⌝ }
 {
-    let i = books::wide(slot);
+    let i = rules::wide(slot);
     if i < values.len() {
         return values[i];
     }
@@ -132,7 +129,7 @@ fn value_of(values: &[u64], slot: u16) -> u64
 fn link_of(links: &[u16], slot: u16) -> u16
     ensures { λ r. ⌜ r ≡ cell (now (links .entry)) slot ⌝ }
 {
-    let i = books::wide(slot);
+    let i = rules::wide(slot);
     if i < links.len() {
         return links[i];
     }

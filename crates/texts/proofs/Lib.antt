@@ -1,3 +1,2 @@
--- Laws of the texts, and of bytes put into a buffer, for the crates above to cite.
-pub mod Pieces
-pub mod Texts
+-- What the proofs of the code of the texts share.
+pub mod Choice

@@ -1,6 +1,6 @@
 // One short text for each number that a call answers with, written into a buffer that the caller lends.
-ghost use Rattle.digits.specs.Digits.{Written};
-ghost use Rattle.texts.specs.Texts.{textOf};
+ghost use Rattle.wording.specs.Digits.{Written};
+ghost use Rattle.wording.specs.Texts.{textOf};
 
 // The number's text into `out` from place `at` on. Answers how many bytes, which is at least 1.
 // Where they do not all fit it answers 0, and nothing is written.

@@ -1,6 +1,4 @@
--- Laws of the walk along a list, of a read and of the emptying, for the crates above to cite.
-pub mod Read
+-- What the proofs of the code of the walks share.
+pub mod Live
+pub mod Turns
 pub mod Fill
-pub mod Clearing
-pub mod Pools
-pub mod Walks

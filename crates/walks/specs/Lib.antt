@@ -1,4 +1,2 @@
--- What a reader of the walks, the reads and the emptying believes: what each gives, and what the laws say of it.
+-- What the code of the walks asks for beside the definitions below it.
 pub mod Read
-pub mod Clear
-pub mod Walk

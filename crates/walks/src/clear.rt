@@ -1,16 +1,10 @@
 // A list is emptied: its front is popped until nothing is left.
 use books::Entry;
 use books::Free;
+use shapes::ClearStep;
 ghost use mathlib.Core.Path.{_≡_};
-ghost use Rattle.books.specs.Outcome.{outcome};
-ghost use Rattle.walks.specs.Clear.{clearOn};
-
-// Whether each pop was done, and the list and the idle chain then.
-pub struct Cleared {
-    pub done: bool,
-    pub entry: Entry,
-    pub free: Free,
-}
+ghost use Rattle.engines.specs.Reads.{clearOn, clearLeft};
+ghost use Rattle.xor.specs.Engine.{xor};
 
 // The front is popped `count` times. It ends at the first pop that is refused; what the pops before it did is done.
 pub fn clear(
@@ -19,8 +13,8 @@ pub fn clear(
     list: Entry,
     free: Free,
     count: usize,
-) -> Cleared
-    ensures { λ r. ⌜ outcome r (now (links .exit)) (now (values .exit)) ≡ clearOn count (now (links .entry)) (now (values .entry)) list free ⌝ }
+) -> ClearStep
+    ensures { λ r. ⌜ clearLeft r (now (links .exit)) (now (values .exit)) ≡ clearOn xor count (now (links .entry)) (now (values .entry)) list free ⌝ }
 {
     let mut entry = list;
     let mut rest = free;
@@ -30,7 +24,7 @@ pub fn clear(
         entry = gone.entry;
         rest = gone.free;
         if !gone.done {
-            return Cleared {
+            return ClearStep {
                 done: false,
                 entry,
                 free: rest,
@@ -38,7 +32,7 @@ pub fn clear(
         }
         left -= 1;
     }
-    Cleared {
+    ClearStep {
         done: true,
         entry,
         free: rest,

@@ -2,23 +2,19 @@
 // And what the slots below have to say of the idle chain and of the slots met, handed up.
 use books::Entry;
 use books::Free;
-use slots::walk::IdleWalk;
+use shapes::IdleWalk;
+use shapes::LiveWalk;
 ghost use mathlib.Core.Path.{_≡_};
 ghost use mathlib.Core.Bool.{_&&_};
 ghost use Prim.Native.Nat.{_<_};
+ghost use lib.Bits.{bitXor};
 ghost use lib.Dec.{eqb};
 ghost use lib.ListN.{length};
 ghost use Rattle.books.specs.Book.{nullSlot};
 ghost use Rattle.chains.specs.Chain.{cell};
-ghost use Rattle.slots.specs.Met.{isMetOf, markOf, unmarked};
-ghost use Rattle.slots.specs.Walk.{IdleWalked};
-ghost use Rattle.walks.specs.Walk.{liveOnward, LiveWalked};
-
-// Whether the walk came to its end at the list's tail, and how many slots it passed.
-pub struct LiveWalk {
-    pub ok: bool,
-    pub length: usize,
-}
+ghost use Rattle.shapes.specs.Met.{isMetOf, markOf, unmarked};
+ghost use Rattle.engines.specs.Walked.{IdleWalked, LiveWalked};
+ghost use Rattle.xor.specs.Engine.{xor};
 
 // The slots of the list are passed and marked. A slot of N or more, or one that was met, ends the walk before it is passed.
 // The null slot is marked while the walk goes, so that one test sees all three: the record has no place for a slot of N or more.
@@ -26,7 +22,7 @@ pub struct LiveWalk {
 // what a call costs. For the same reason a slot is kept as an index, widened when it is read.
 // Refused, and nothing changes, where the record is not walkable.
 pub fn walk_live(links: &[u16], met: &mut [u8], list: Entry) -> LiveWalk
-    ensures { λ r. ⌜ LiveWalked (now (links .entry)) (now (met .entry)) list r (now (met .exit)) ⌝ }
+    ensures { λ r. ⌜ LiveWalked xor (now (links .entry)) (now (met .entry)) list r (now (met .exit)) ⌝ }
 {
     if !slots::met::walkable(links, met) {
         return LiveWalk {
@@ -35,7 +31,7 @@ pub fn walk_live(links: &[u16], met: &mut [u8], list: Entry) -> LiveWalk
         };
     }
     met[0] = 1;
-    let mut slot = books::wide(list.head);
+    let mut slot = rules::wide(list.head);
     let mut last: usize = 0;
     let mut length: usize = 0;
     while !slots::met::is_met(met, slot) {
@@ -53,10 +49,10 @@ pub fn walk_live(links: &[u16], met: &mut [u8], list: Entry) -> LiveWalk
 // A slot is passed: it is marked, and the one after it is its link XORed with the one before it.
 fn pass(links: &[u16], met: &mut [u8], slot: usize, before: usize) -> usize
     requires { ⌜ (slot < length (now links)) × (slot < length (now met)) ⌝ }
-    ensures { λ r. ⌜ (r ≡ liveOnward before (cell (now (links .entry)) slot)) × (now (met .exit) ≡ markOf (now (met .entry)) slot) ⌝ }
+    ensures { λ r. ⌜ (r ≡ bitXor (cell (now (links .entry)) slot) before) × (now (met .exit) ≡ markOf (now (met .entry)) slot) ⌝ }
 {
     met[slot] = 1;
-    books::wide(links[slot]) ^ before
+    rules::wide(links[slot]) ^ before
 }
 
 // The walk stopped at `slot`, after `many` slots, of which `last` was the last. The null slot's mark is taken away.
@@ -67,7 +63,7 @@ fn ended(met: &mut [u8], list: Entry, slot: usize, last: usize, many: usize) -> 
     met[0] = 0;
     if slot == 0 {
         return LiveWalk {
-            ok: last == books::wide(list.tail),
+            ok: last == rules::wide(list.tail),
             length: many,
         };
     }
@@ -79,7 +75,7 @@ fn ended(met: &mut [u8], list: Entry, slot: usize, last: usize, many: usize) -> 
 
 // The walk along the idle chain, as `slots` walks it.
 pub fn walk_idle(links: &[u16], values: &[u64], met: &mut [u8], free: Free) -> IdleWalk
-    ensures { λ r. ⌜ IdleWalked (now (links .entry)) (now (values .entry)) (now (met .entry)) free r (now (met .exit)) ⌝ }
+    ensures { λ r. ⌜ IdleWalked xor (now (links .entry)) (now (values .entry)) (now (met .entry)) free r (now (met .exit)) ⌝ }
 {
     slots::walk::walk_idle(links, values, met, free)
 }

@@ -2,8 +2,8 @@
 use mathlib.Core.Path.{refl, subst}
 use denote.Ref.{now}
 use borrow.Author.Needs.{needs}
-use Rattle.digits.specs.Digits.{Written}
-use Rattle.demo.proofs.Six.{six-lines}
+use Rattle.wording.specs.Digits.{Written}
+use Rattle.shows.proofs.Six.{six-lines}
 use Rattle.demo.proofs.run.Statement.{statement}
 use Rattle.demo.proofs.run.Tie as tie
 

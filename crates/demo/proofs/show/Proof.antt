@@ -2,8 +2,8 @@
 use native.Mathlib.Omega.{arith}
 use denote.Ref.{now}
 use borrow.Author.Needs.{needs}
-use Rattle.texts.proofs.Pieces.{within}
-use Rattle.demo.proofs.Shows.{pushed-count, at-pushes, at-pops}
+use Rattle.wording.proofs.Pieces.{within-buffer}
+use Rattle.shows.proofs.Shows.{pushed-count, at-pushes, at-pops}
 use Rattle.demo.proofs.show.Statement.{statement}
 use Rattle.demo.proofs.show.Tie as tie
 
@@ -24,7 +24,7 @@ add-result c =
     let lines = c .before .before .before .before .before .before .before .before .before .before .before .before .before in
     let start = lines .before .before .before .before .before .before .before .before .before .before .before .before .before .before .before .before in
     let l = pushed-count (lines .three .ensures) in
-    omega (arith, within (c .before .before .show-pops .ensures) (omega (arith, lines .three .kept .0, start .pre)), lines .three .kept .0, start .good .1 .1 .0 .0)
+    omega (arith, within-buffer (c .before .before .show-pops .ensures) (omega (arith, lines .three .kept .0, start .pre)), lines .three .kept .0, start .good .1 .1 .0 .0)
 
 returns-2 : tie.Need-returns-2
 returns-2 c =

@@ -1,6 +1,6 @@
 -- `demo::show_pops`: the text of the refusal, or the three lines.
 use borrow.Author.Needs.{needs}
-use Rattle.demo.proofs.Shows.{pops-refused, pops-done}
+use Rattle.shows.proofs.Shows.{pops-refused, pops-done}
 use Rattle.demo.proofs.show_pops.Statement.{statement}
 use Rattle.demo.proofs.show_pops.Tie as tie
 

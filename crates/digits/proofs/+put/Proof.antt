@@ -8,8 +8,8 @@ use denote.Ref.{now}
 use borrow.Author.Needs.{needs}
 use borrow.Fn.Kinds.{In}
 use borrow.Fn.PlainCycle.{Measures, is, falls, and}
-use Rattle.digits.specs.Digits.{bytesOf}
-use Rattle.digits.proofs.Written.{bytes-one, bytes-more, some-byte, no-room, one-written, last-free, last-place, last-refused, last-written}
+use Rattle.wording.specs.Digits.{bytesOf}
+use Rattle.wording.proofs.Written.{bytes-one, bytes-more, some-digit-byte, bytes-refused, one-written, last-free, last-place, last-refused, last-written}
 use Rattle.digits.proofs.put.Reads as put
 use Rattle.digits.proofs.put.Kinds as put-kinds
 use Rattle.digits.proofs.+put.Lts-put as put-lts
@@ -31,7 +31,7 @@ module _ (t : ℕ) where
   no-place : put-lts.Need-returns (ascii-reads.Asked, ascii-reads.Learnt, put-below t, put.Post) (put-at t) put.Post
   no-place c =
       let a = c .before .before .args in
-      no-room (bytesOf (a .number)) (now (a .out)) 0 (omega (arith, c .if1 .taken, some-byte (a .number)))
+      bytes-refused (bytesOf (a .number)) (now (a .out)) 0 (omega (arith, c .if1 .taken, some-digit-byte (a .number)))
 
   one-digit : put-lts.Need-returns-2 (ascii-reads.Asked, ascii-reads.Learnt, put-below t, put.Post) (put-at t) put.Post
   one-digit c =
@@ -44,7 +44,7 @@ module _ (t : ℕ) where
       let p = c .before .before .before in
       let a = p .before .before .before .before .before .args in
       rw (bytes-more (a .number) (p .before .before .if2 .left))
-      (last-refused _ (now (a .out)) _ (pos-of-ne-zero (p .before .before .before .if1 .left)) _ _ (p .put .ensures) (some-byte _) (c .if3 .taken))
+      (last-refused _ (now (a .out)) _ (pos-of-ne-zero (p .before .before .before .if1 .left)) _ _ (p .put .ensures) (some-digit-byte _) (c .if3 .taken))
 
   last-fits : put-lts.Need-slice-write-out-2 (ascii-reads.Asked, ascii-reads.Learnt, put-below t, put.Post) (put-at t) put.Post
   last-fits c =

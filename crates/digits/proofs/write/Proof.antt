@@ -2,8 +2,8 @@
 use native.Mathlib.Omega.{arith}
 use denote.Ref.{now}
 use borrow.Author.Needs.{needs}
-use Rattle.digits.specs.Digits.{bytesOf}
-use Rattle.digits.proofs.Written.{no-room, part-written}
+use Rattle.wording.specs.Digits.{bytesOf}
+use Rattle.wording.proofs.Written.{bytes-refused, part-written}
 use Rattle.digits.proofs.write.Statement.{statement}
 use Rattle.digits.proofs.write.Tie as tie
 
@@ -15,7 +15,7 @@ returns c =
 returns-2 : tie.Need-returns-2
 returns-2 c =
     let a = c .before .before .args in
-    no-room (bytesOf (a .number)) (now (a .out)) (a .at) (omega arith)
+    bytes-refused (bytesOf (a .number)) (now (a .out)) (a .at) (omega arith)
 
 pub write-spec : {M : Type 1} → statement M
 write-spec =

@@ -1,7 +1,7 @@
 -- `lists::is_beside`: the two slots differ, and the slot layer's test.
 use borrow.Author.Needs.{needs}
 use borrow.Author.Tests.{eq-eqb, ne-eqb}
-use Rattle.lists.specs.Model.{isBeside}
+use Rattle.xor.specs.Steps.{isBeside}
 use Rattle.lists.proofs.is_beside.Statement.{statement}
 use Rattle.lists.proofs.is_beside.Tie as tie
 

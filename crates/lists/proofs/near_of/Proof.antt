@@ -1,6 +1,6 @@
 -- `lists::near_of`: each end in turn.
 use borrow.Author.Needs.{needs}
-use Rattle.lists.specs.Model.{nearOf}
+use Rattle.shapes.specs.Ends.{nearOf}
 use Rattle.lists.proofs.near_of.Statement.{statement}
 use Rattle.lists.proofs.near_of.Tie as tie
 

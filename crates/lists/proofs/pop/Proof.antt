@@ -14,20 +14,21 @@ use Rattle.books.specs.declared.Entry.{Entry}
 use Rattle.books.specs.Book.{nullSlot}
 use Rattle.books.specs.Outcome.{outcome}
 use Rattle.chains.specs.Chain.{cell}
-use Rattle.slots.specs.declared.Released.{Released}
-use Rattle.slots.specs.Slot.{InPool, inPool}
-use Rattle.slots.specs.Model.{releaseOf}
-use Rattle.slots.proofs.Slot.{in-pool}
-use Rattle.lists.specs.declared.End.{End}
-use Rattle.lists.specs.declared.Popped.{Popped}
-use Rattle.lists.specs.Model.{nearOf, withNear, emptied, isBeside, refusedPop, donePop, unlinked, popOf}
-use Rattle.lists.proofs.Beside.{beside-iff}
+use Rattle.shapes.specs.declared.Released.{Released}
+use Rattle.xor.specs.Slot.{InPool, inPool}
+use Rattle.xor.specs.Slots.{releaseOf}
+use Rattle.xor.proofs.Slot.{in-pool}
+use Rattle.shapes.specs.declared.End.{End}
+use Rattle.shapes.specs.declared.PopStep.{PopStep}
+use Rattle.shapes.specs.Ends.{nearOf, withNear, emptied}
+use Rattle.xor.specs.Steps.{isBeside, refusedPop, donePop, unlinked, popOf}
+use Rattle.xor.proofs.Beside.{beside-iff}
 use Rattle.lists.proofs.pop.Statement.{statement}
 use Rattle.lists.proofs.pop.Tie as tie
 
 -- what a pop leaves past its first test, in plain names: to rewrite among the paths of a need takes far longer
 module _ (end : End) (links values : List ℕ) (list : Entry) (free : Free) (slot : ℕ) (e : slot ≡ nearOf end list) (p : inPool links values slot ≡ true) where
-  last-left : {r : Popped} {left : Entry} {freed : Released} {l v : List ℕ}
+  last-left : {r : PopStep} {left : Entry} {freed : Released} {l v : List ℕ}
       → cell links slot ≡ nullSlot
       → outcome freed l v ≡ releaseOf links values slot free
       → left ≡ emptied list
@@ -37,11 +38,11 @@ module _ (end : End) (links values : List ℕ) (list : Entry) (free : Free) (slo
   last-left z f m d = rw (d, m, ← e, p, eq-eqb _ _ z, ← f)
 
   module _ (n : cell links slot ≢ nullSlot) where
-    not-beside : {r : Popped} {t : Bool} → t ≡ isBeside links values (cell links slot) slot → t ≡ false → r ≡ refusedPop list free → outcome r links values ≡ popOf end links values list free
+    not-beside : {r : PopStep} {t : Bool} → t ≡ isBeside links values (cell links slot) slot → t ≡ false → r ≡ refusedPop list free → outcome r links values ≡ popOf end links values list free
     unfolding popOf
     not-beside q f d = rw (d, ← e, p, ne-eqb _ _ n, ← q, f)
 
-    end-left : {r : Popped} {left : Entry} {freed : Released} {l v : List ℕ}
+    end-left : {r : PopStep} {left : Entry} {freed : Released} {l v : List ℕ}
         → isBeside links values (cell links slot) slot ≡ true
         → outcome freed l v ≡ releaseOf links values slot free
         → left ≡ withNear end (cell links slot) list

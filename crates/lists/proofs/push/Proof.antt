@@ -1,7 +1,7 @@
 -- `lists::push`: what the two kinds of push promise, by the test of the tail.
 use borrow.Author.Needs.{needs}
 use borrow.Author.Tests.{eq-eqb, ne-eqb}
-use Rattle.lists.specs.Model.{pushOf}
+use Rattle.xor.specs.Steps.{pushOf}
 use Rattle.lists.proofs.push.Statement.{statement}
 use Rattle.lists.proofs.push.Tie as tie
 

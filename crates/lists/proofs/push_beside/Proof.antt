@@ -10,24 +10,25 @@ use borrow.Author.Tests.{not-true, not-false}
 use Rattle.books.specs.declared.Free.{Free}
 use Rattle.books.specs.declared.Entry.{Entry}
 use Rattle.books.specs.Outcome.{outcome}
-use Rattle.slots.specs.declared.Taken.the-variants.{Slot}
-use Rattle.slots.specs.Slot.{InPool}
-use Rattle.slots.specs.Model.{saidBy, takeOf}
-use Rattle.slots.proofs.Laws.{take-slot}
-use Rattle.lists.specs.declared.End.{End}
-use Rattle.lists.specs.declared.Pushed.{Pushed}
-use Rattle.lists.specs.Model.{nearOf, withNear, isBeside, refusedPush, donePush, pushedBeside, pushBesideOf}
-use Rattle.lists.proofs.Beside.{beside-iff}
+use Rattle.shapes.specs.declared.Taken.the-variants.{Slot}
+use Rattle.xor.specs.Slot.{InPool}
+use Rattle.xor.specs.Slots.{saidBy, takeOf}
+use Rattle.xor.proofs.Slots.{take-slot}
+use Rattle.shapes.specs.declared.End.{End}
+use Rattle.shapes.specs.declared.PushStep.{PushStep}
+use Rattle.shapes.specs.Ends.{nearOf, withNear}
+use Rattle.xor.specs.Steps.{isBeside, refusedPush, donePush, pushedBeside, pushBesideOf}
+use Rattle.xor.proofs.Beside.{beside-iff}
 use Rattle.lists.proofs.push_beside.Statement.{statement}
 use Rattle.lists.proofs.push_beside.Tie as tie
 
 -- what a push leaves once a slot was taken, in plain names: to rewrite among the paths of a need takes far longer
 module _ (end : End) (links values : List ℕ) (list : Entry) (free : Free) (value slot : ℕ) (rest : Free) (k : saidBy free (Slot slot rest) ≡ takeOf links values free) (near : ℕ) (e : near ≡ nearOf end list) where
-  not-beside : {r : Pushed} {t : Bool} → t ≡ isBeside links values near slot → t ≡ false → r ≡ refusedPush list free → outcome r links values ≡ pushBesideOf end links values list free value
+  not-beside : {r : PushStep} {t : Bool} → t ≡ isBeside links values near slot → t ≡ false → r ≡ refusedPush list free → outcome r links values ≡ pushBesideOf end links values list free value
   unfolding pushBesideOf
   not-beside q f d = rw (d, ← k, ← e, ← q, f)
 
-  end-joined : {r : Pushed} {left : Entry}
+  end-joined : {r : PushStep} {left : Entry}
       → isBeside links values near slot ≡ true
       → left ≡ withNear end slot list
       → r ≡ donePush left rest

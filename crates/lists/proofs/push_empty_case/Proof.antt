@@ -3,11 +3,11 @@ use mathlib.Core.Path.{_≡_, sym, ap, _∙_}
 use denote.Ref.{now}
 use borrow.Author.Needs.{needs}
 use borrow.Author.Tests.{eq-eqb, ne-eqb}
-use Rattle.slots.specs.declared.Taken.the-variants.{Slot}
-use Rattle.slots.specs.Slot.{InPool}
-use Rattle.slots.specs.Model.{saidBy, takeOf}
-use Rattle.slots.proofs.Laws.{take-slot}
-use Rattle.lists.specs.Model.{pushEmptyOf}
+use Rattle.shapes.specs.declared.Taken.the-variants.{Slot}
+use Rattle.xor.specs.Slot.{InPool}
+use Rattle.xor.specs.Slots.{saidBy, takeOf}
+use Rattle.xor.proofs.Slots.{take-slot}
+use Rattle.xor.specs.Steps.{pushEmptyOf}
 use Rattle.lists.proofs.push_empty_case.Statement.{statement}
 use Rattle.lists.proofs.push_empty_case.Tie as tie
 

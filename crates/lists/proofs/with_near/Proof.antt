@@ -1,6 +1,6 @@
 -- `lists::with_near`: each end in turn.
 use borrow.Author.Needs.{needs}
-use Rattle.lists.specs.Model.{withNear}
+use Rattle.shapes.specs.Ends.{withNear}
 use Rattle.lists.proofs.with_near.Statement.{statement}
 use Rattle.lists.proofs.with_near.Tie as tie
 

@@ -5,10 +5,10 @@ use native.Mathlib.Omega.{arith}
 use lib.ListN.{length}
 use denote.Ref.{now}
 use borrow.Author.Needs.{needs}
-use Rattle.digits.specs.Digits.{Written}
-use Rattle.texts.proofs.Pieces.{at-most}
-use Rattle.notices.specs.Notices.{noticesBelow}
-use Rattle.notices.proofs.Rows.{notice-size, none-in, next-in, last-in}
+use Rattle.wording.specs.Digits.{Written}
+use Rattle.wording.proofs.Pieces.{at-most-bytes}
+use Rattle.wording.specs.Notices.{noticesBelow}
+use Rattle.wording.proofs.Notices.{notice-size, none-in, next-in, last-notice-in}
 use Rattle.notices.proofs.all.Statement.{statement}
 use Rattle.notices.proofs.all.Tie as tie
 
@@ -24,24 +24,24 @@ loop-holds c = (none-in (now (c .before .args .out)), search needs, search needs
 add-at : tie.Need-add-at Inv-loop μ-loop
 add-at c =
     let l = c .before .before .before .before .before .loop in
-    omega (arith, at-most (c .before .before .notice .ensures), notice-size (l .number) (omega arith))
+    omega (arith, at-most-bytes (c .before .before .notice .ensures), notice-size (l .number) (omega arith))
 
 loop-again : tie.Need-loop-again Inv-loop μ-loop
 loop-again c =
     let l = c .before .before .before .before .before .loop in
     let p = c .before .before .notice in
-    let k = at-most (p .ensures) in
+    let k = at-most-bytes (p .ensures) in
     let s = notice-size (l .number) (omega arith) in
     (next-in (l .number) (search needs) (search needs) (l .inv .0) (p .ensures), search needs, omega arith, search needs)
 
 add-result : tie.Need-add-result Inv-loop μ-loop
-add-result c = omega (arith, at-most (c .before .before .notice2 .ensures), notice-size 65535 (omega arith))
+add-result c = omega (arith, at-most-bytes (c .before .before .notice2 .ensures), notice-size 65535 (omega arith))
 
 returns : tie.Need-returns Inv-loop μ-loop
 returns c =
     let l = c .before .before .before .before .before .loop in
     let e : l .number ≡ 10 = omega arith in
-    last-in (search needs) (subst (λ n. Written (noticesBelow n) (now (c .before .before .before .before .before .before .before .args .out)) 0 (l .at) (l .out)) e (l .inv .0)) (c .before .before .notice2 .ensures)
+    last-notice-in (search needs) (subst (λ n. Written (noticesBelow n) (now (c .before .before .before .before .before .before .before .args .out)) 0 (l .at) (l .out)) e (l .inv .0)) (c .before .before .notice2 .ensures)
 
 pub all-spec : {M : Type 1} → statement M
 all-spec =

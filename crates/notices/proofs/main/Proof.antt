@@ -3,15 +3,15 @@ use mathlib.Core.Path.{sym}
 use native.Mathlib.Omega.{arith}
 use lib.Seq.{length-take-le}
 use borrow.Author.Needs.{needs}
-use Rattle.texts.proofs.Pieces.{within}
+use Rattle.wording.proofs.Pieces.{within-buffer}
 use Rattle.notices.proofs.main.Statement.{statement}
 use Rattle.notices.proofs.main.Tie as tie
 
 array-share-prefix-out : tie.Need-array-share-prefix-out
-array-share-prefix-out c = omega (arith, within (c .before .all .ensures) (omega arith), c .before .all .kept .0)
+array-share-prefix-out c = omega (arith, within-buffer (c .before .all .ensures) (omega arith), c .before .all .kept .0)
 
 slice-aggregate-write-all : tie.Need-slice-aggregate-write-all
-slice-aggregate-write-all c = sym (length-take-le _ _ (omega (arith, within (c .before .before .all .ensures) (omega arith), c .before .before .all .kept .0)))
+slice-aggregate-write-all c = sym (length-take-le _ _ (omega (arith, within-buffer (c .before .before .all .ensures) (omega arith), c .before .before .all .kept .0)))
 
 pub main-spec : {M : Type 1} → statement M
 main-spec =

@@ -1,9 +1,9 @@
 -- `pools::sizes_fit`: the lengths are the same, and the book's test of the size.
 use borrow.Author.Needs.{needs}
 use borrow.Author.Tests.{eq-eqb, ne-eqb}
-use Rattle.pools.specs.Size.{sizesFit}
 use Rattle.pools.proofs.sizes_fit.Statement.{statement}
 use Rattle.pools.proofs.sizes_fit.Tie as tie
+use Rattle.engines.specs.Check.{sizesFit}
 
 returns : tie.Need-returns
 unfolding sizesFit

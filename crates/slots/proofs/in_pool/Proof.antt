@@ -1,6 +1,6 @@
 -- `slots::in_pool`: each answer follows from the tests on the way.
 use borrow.Author.Tests.{eq-eqb, ne-eqb, lt-ltb, le-ltb}
-use Rattle.slots.specs.Slot.{inPool}
+use Rattle.xor.specs.Slot.{inPool}
 use Rattle.slots.proofs.in_pool.Statement.{statement}
 use Rattle.slots.proofs.in_pool.Tie as tie
 

@@ -2,9 +2,9 @@
 use mathlib.Core.Path.{sym, _∙_}
 use denote.Ref.{now}
 use borrow.Author.Needs.{needs}
-use Rattle.slots.specs.Slot.{InPool}
-use Rattle.slots.specs.Model.{releaseOf}
-use Rattle.slots.proofs.Slot.{in-pool}
+use Rattle.xor.specs.Slot.{InPool}
+use Rattle.xor.specs.Slots.{releaseOf}
+use Rattle.xor.proofs.Slot.{in-pool}
 use Rattle.slots.proofs.release.Statement.{statement}
 use Rattle.slots.proofs.release.Tie as tie
 

@@ -7,8 +7,8 @@ use lib.ListN.{length, getD, set}
 use lib.Seq.{paste, paste-zero, paste-suc}
 use denote.Ref.{now}
 use borrow.Author.Needs.{needs}
-use Rattle.digits.proofs.Written.{no-room}
-use Rattle.texts.proofs.Pieces.{all-in}
+use Rattle.wording.proofs.Written.{bytes-refused}
+use Rattle.wording.proofs.Pieces.{all-in}
 use Rattle.texts.proofs.put.Statement.{statement}
 use Rattle.texts.proofs.put.Tie as tie
 
@@ -21,12 +21,12 @@ abbrev μ-loop : tie.MeasureT-loop
 returns : tie.Need-returns Inv-loop μ-loop
 returns c =
     let a = c .before .args in
-    no-room (now (a .bytes)) (now (a .out)) (a .at) (omega arith)
+    bytes-refused (now (a .bytes)) (now (a .out)) (a .at) (omega arith)
 
 returns-2 : tie.Need-returns-2 Inv-loop μ-loop
 returns-2 c =
     let a = c .before .before .args in
-    no-room (now (a .bytes)) (now (a .out)) (a .at) (omega arith)
+    bytes-refused (now (a .bytes)) (now (a .out)) (a .at) (omega arith)
 
 loop-holds : tie.Need-loop-holds Inv-loop μ-loop
 loop-holds c =

@@ -1,8 +1,8 @@
 -- `texts::write`: each arm puts the text of its number, and the range the text of every number above 8.
 use Prim.Native.Nat.{zero-le}
 use borrow.Author.Needs.{needs}
-use Rattle.texts.specs.Texts.{textOf}
-use Rattle.texts.proofs.Texts.{chosen, past, by-default}
+use Rattle.wording.specs.Texts.{textOf}
+use Rattle.texts.proofs.Choice.{chosen, past, by-default}
 use Rattle.texts.proofs.write.Statement.{statement}
 use Rattle.texts.proofs.write.Tie as tie
 

@@ -2,7 +2,7 @@
 use mathlib.Core.Path.{_∙_, ap}
 use borrow.Author.Needs.{needs}
 use Rattle.books.specs.declared.Book.{Book}
-use Rattle.shares.specs.Ten.{clearOf}
+use Rattle.xor.specs.Ten.{clearOf}
 use Rattle.abi.proofs.Thin.{changed-by}
 use Rattle.abi.proofs.changes.flailreeve_clear.Statement.{statement}
 use Rattle.abi.proofs.changes.flailreeve_clear.Tie as tie

@@ -2,7 +2,7 @@
 use mathlib.Core.Path.{_∙_, ap}
 use borrow.Author.Needs.{needs}
 use Rattle.books.specs.declared.Book.{Book}
-use Rattle.shares.specs.Ten.{popBackOf}
+use Rattle.xor.specs.Ten.{popBackOf}
 use Rattle.abi.proofs.Thin.{handed-by}
 use Rattle.abi.proofs.changes.flailreeve_pop_back.Statement.{statement}
 use Rattle.abi.proofs.changes.flailreeve_pop_back.Tie as tie

@@ -2,7 +2,7 @@
 use mathlib.Core.Path.{_∙_, ap}
 use borrow.Author.Needs.{needs}
 use Rattle.books.specs.declared.Book.{Book}
-use Rattle.shares.specs.Ten.{pushBackOf}
+use Rattle.xor.specs.Ten.{pushBackOf}
 use Rattle.abi.proofs.Thin.{changed-by}
 use Rattle.abi.proofs.changes.flailreeve_push_back.Statement.{statement}
 use Rattle.abi.proofs.changes.flailreeve_push_back.Tie as tie

@@ -3,7 +3,7 @@ use mathlib.Core.Path.{_∙_, ap}
 use borrow.Author.Needs.{needs}
 use Rattle.books.specs.declared.Book.{Book}
 use Rattle.books.specs.declared.Refusal.{Refusal}
-use Rattle.shares.specs.Ten.{checkOf}
+use Rattle.xor.specs.Ten.{checkOf}
 use Rattle.abi.proofs.looks.flailreeve_check.Statement.{statement}
 use Rattle.abi.proofs.looks.flailreeve_check.Tie as tie
 

@@ -2,9 +2,9 @@
 use mathlib.Core.Path.{_∙_, ap}
 use borrow.Author.Needs.{needs}
 use Rattle.books.specs.declared.Book.{Book}
-use Rattle.shares.specs.declared.Length.{Length}
-use Rattle.shares.specs.Ten.{lengthOf}
-use Rattle.abi.specs.Face.{told}
+use Rattle.books.specs.declared.Length.{Length}
+use Rattle.xor.specs.Ten.{lengthOf}
+use Rattle.faces.specs.Face.{told}
 use Rattle.abi.proofs.looks.flailreeve_length.Statement.{statement}
 use Rattle.abi.proofs.looks.flailreeve_length.Tie as tie
 

@@ -2,7 +2,7 @@
 use mathlib.Core.Path.{_∙_, ap}
 use borrow.Author.Needs.{needs}
 use Rattle.books.specs.declared.Book.{Book}
-use Rattle.shares.specs.Ten.{readBackwardOf}
+use Rattle.xor.specs.Ten.{readBackwardOf}
 use Rattle.abi.proofs.Thin.{shown-by}
 use Rattle.abi.proofs.looks.flailreeve_read_backward.Statement.{statement}
 use Rattle.abi.proofs.looks.flailreeve_read_backward.Tie as tie

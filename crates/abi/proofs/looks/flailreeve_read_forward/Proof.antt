@@ -2,7 +2,7 @@
 use mathlib.Core.Path.{_∙_, ap}
 use borrow.Author.Needs.{needs}
 use Rattle.books.specs.declared.Book.{Book}
-use Rattle.shares.specs.Ten.{readForwardOf}
+use Rattle.xor.specs.Ten.{readForwardOf}
 use Rattle.abi.proofs.Thin.{shown-by}
 use Rattle.abi.proofs.looks.flailreeve_read_forward.Statement.{statement}
 use Rattle.abi.proofs.looks.flailreeve_read_forward.Tie as tie

@@ -1,6 +1,6 @@
 -- `abi::words::book_from`: the entries are those that the words are.
 use borrow.Author.Needs.{needs}
-use Rattle.abi.proofs.Flat.{same-entries}
+use Rattle.faces.proofs.Flat.{same-entries}
 use Rattle.abi.proofs.words.book_from.Statement.{statement}
 use Rattle.abi.proofs.words.book_from.Tie as tie
 

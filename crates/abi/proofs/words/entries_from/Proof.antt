@@ -5,7 +5,7 @@ use native.Mathlib.Omega.{arith}
 use borrow.Author.Needs.{needs}
 use Rattle.books.specs.Book.{zeroEntry}
 use Rattle.shares.proofs.Fill.{Filling, fill-none, fill-more, fill-all}
-use Rattle.abi.specs.Words.{entryFrom}
+use Rattle.faces.specs.Words.{entryFrom}
 use Rattle.abi.proofs.words.entries_from.Statement.{statement}
 use Rattle.abi.proofs.words.entries_from.Tie as tie
 

@@ -1,7 +1,7 @@
 -- `abi::words::keep`: the words are the book's where the number is 0, and else as they were.
 use mathlib.Core.Path.{refl, sym, _∙_}
 use borrow.Author.Needs.{needs}
-use Rattle.abi.proofs.Kept.{kept-done, kept-refused}
+use Rattle.faces.proofs.Kept.{kept-done, kept-refused}
 use Rattle.abi.proofs.words.keep.Statement.{statement}
 use Rattle.abi.proofs.words.keep.Tie as tie
 

@@ -1,7 +1,7 @@
 -- `demo::calls::next_back`: nothing after a refusal, and else the call.
 use mathlib.Core.Path.{sym}
 use borrow.Author.Needs.{needs}
-use Rattle.demo.proofs.Played.{back-stops, back-goes}
+use Rattle.shows.proofs.Played.{back-stops, back-goes}
 use Rattle.demo.proofs.calls.next_back.Statement.{statement}
 use Rattle.demo.proofs.calls.next_back.Tie as tie
 

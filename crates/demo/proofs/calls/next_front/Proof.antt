@@ -1,7 +1,7 @@
 -- `demo::calls::next_front`: nothing after a refusal, and else the call.
 use mathlib.Core.Path.{sym}
 use borrow.Author.Needs.{needs}
-use Rattle.demo.proofs.Played.{front-stops, front-goes}
+use Rattle.shows.proofs.Played.{front-stops, front-goes}
 use Rattle.demo.proofs.calls.next_front.Statement.{statement}
 use Rattle.demo.proofs.calls.next_front.Tie as tie
 

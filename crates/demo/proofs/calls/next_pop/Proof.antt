@@ -1,7 +1,7 @@
 -- `demo::calls::next_pop`: nothing after a refusal, and else the call.
 use mathlib.Core.Path.{sym}
 use borrow.Author.Needs.{needs}
-use Rattle.demo.proofs.Played.{pop-stops, pop-goes}
+use Rattle.shows.proofs.Played.{pop-stops, pop-goes}
 use Rattle.demo.proofs.calls.next_pop.Statement.{statement}
 use Rattle.demo.proofs.calls.next_pop.Tie as tie
 

@@ -1,7 +1,7 @@
 -- `demo::calls::pop_three`: the pops, one after the other.
 use denote.Ref.{now}
 use borrow.Author.Needs.{needs}
-use Rattle.demo.proofs.Played.{popped-by}
+use Rattle.shows.proofs.Played.{popped-by}
 use Rattle.demo.proofs.calls.pop_three.Statement.{statement}
 use Rattle.demo.proofs.calls.pop_three.Tie as tie
 

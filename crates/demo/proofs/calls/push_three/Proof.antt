@@ -2,7 +2,7 @@
 use mathlib.Core.Path.{_∙_}
 use denote.Ref.{now}
 use borrow.Author.Needs.{needs}
-use Rattle.demo.proofs.Played.{pushed-by}
+use Rattle.shows.proofs.Played.{pushed-by}
 use Rattle.demo.proofs.calls.push_three.Statement.{statement}
 use Rattle.demo.proofs.calls.push_three.Tie as tie
 

@@ -2,32 +2,32 @@
 use native.Mathlib.Omega.{arith}
 use denote.Ref.{now}
 use borrow.Author.Needs.{needs}
-use Rattle.texts.proofs.Pieces.{within}
-use Rattle.demo.proofs.Rows.{line-in}
+use Rattle.wording.proofs.Pieces.{within-buffer}
+use Rattle.shows.proofs.Rows.{line-in}
 use Rattle.demo.proofs.lines.line.Statement.{statement}
 use Rattle.demo.proofs.lines.line.Tie as tie
 
 add-write : tie.Need-add-write
-add-write c = omega (arith, within (c .before .before .before .put .ensures) (omega arith))
+add-write c = omega (arith, within-buffer (c .before .before .before .put .ensures) (omega arith))
 
 add-both : tie.Need-add-both
 add-both c =
     let w = c .before .before in
-    let l = within (w .before .before .before .before .put .ensures) (omega arith) in
-    omega (arith, within (w .write .ensures) (omega arith))
+    let l = within-buffer (w .before .before .before .before .put .ensures) (omega arith) in
+    omega (arith, within-buffer (w .write .ensures) (omega arith))
 
 add-put : tie.Need-add-put
 add-put c =
     let w = c .before .before .before in
-    let l = within (w .before .before .before .before .put .ensures) (omega arith) in
-    omega (arith, within (w .write .ensures) (omega arith))
+    let l = within-buffer (w .before .before .before .before .put .ensures) (omega arith) in
+    omega (arith, within-buffer (w .write .ensures) (omega arith))
 
 add-result : tie.Need-add-result
 add-result c =
     let w = c .before .before .before .before .before .before .before in
-    let l = within (w .before .before .before .before .put .ensures) (omega arith) in
-    let m = within (w .write .ensures) (omega arith) in
-    omega (arith, within (c .before .before .put2 .ensures) (omega arith))
+    let l = within-buffer (w .before .before .before .before .put .ensures) (omega arith) in
+    let m = within-buffer (w .write .ensures) (omega arith) in
+    omega (arith, within-buffer (c .before .before .put2 .ensures) (omega arith))
 
 returns : tie.Need-returns
 returns c =

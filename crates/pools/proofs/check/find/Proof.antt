@@ -9,8 +9,8 @@ use borrow.Author.Tests.{not-true, not-false}
 use Rattle.books.specs.Book.{eight}
 use Rattle.books.specs.Test.{keepsRules}
 use Rattle.books.proofs.Rules.{keeps-rules}
-use Rattle.pools.specs.Check.{checkFound}
-use Rattle.pools.proofs.Stages.{met-none}
+use Rattle.engines.specs.Check.{checkFound}
+use Rattle.engines.proofs.Stages.{met-none}
 use Rattle.pools.proofs.check.find.Statement.{statement}
 use Rattle.pools.proofs.check.find.Tie as tie
 

@@ -2,7 +2,8 @@
 use native.Mathlib.Omega.{arith}
 use denote.Ref.{now}
 use borrow.Author.Needs.{needs}
-use Rattle.pools.proofs.Stages.{idle-at-most}
+use Rattle.engines.proofs.Stages.{idle-at-most}
+use Rattle.xor.specs.Engine.{xor}
 use Rattle.pools.proofs.check.find_idle.Statement.{statement}
 use Rattle.pools.proofs.check.find_idle.Tie as tie
 
@@ -12,7 +13,7 @@ idle-fault-requires c κs =
     let w = c .before .before .before .walk-idle .ensures in (
       omega arith,
       omega arith,
-      omega (arith, w .counted, idle-at-most (now (s .links)) (now (s .values)) (now (s .met)) (s .free)),
+      omega (arith, w .counted, idle-at-most xor (now (s .links)) (now (s .values)) (now (s .met)) (s .free)),
     )
 
 returns : tie.Need-returns

@@ -10,8 +10,9 @@ use denote.Ref.{now}
 use borrow.Author.Needs.{needs}
 use borrow.Author.Tests.{not-true, not-false}
 use Rattle.books.specs.declared.Entry.{Entry}
-use Rattle.pools.specs.Check.{nullSlotZero}
-use Rattle.pools.proofs.Stages.{nothing-place, nothing-again, pool-null, pool-live, pool-fault, pool-idle}
+use Rattle.engines.specs.Check.{nullSlotZero}
+use Rattle.engines.proofs.Stages.{nothing-place, nothing-again, pool-null, pool-live, pool-fault, pool-idle-found}
+use Rattle.xor.specs.Engine.{xor}
 use Rattle.pools.proofs.check.find_over.Statement.{statement}
 use Rattle.pools.proofs.check.find_over.Tie as tie
 
@@ -23,11 +24,11 @@ as-many c =
     length-take-le (c .args .book .lists) (c .args .book .entries) (omega (arith, c .pre .2, sym (length-map (c .args .book .entries) _) ∙ c .good .1 .1 .1 .0 .1 .1 .1 .0 .1 .0 .1))
 
 -- past the first test slot 0 is zero
-zero-slot : (c : tie.Else1) → nullSlotZero (now (c .before .before .before .before .before .args .links)) (now (c .before .before .before .before .before .args .values)) ≡ true
+zero-slot : (c : tie.Else1) → nullSlotZero xor (now (c .before .before .before .before .before .args .links)) (now (c .before .before .before .before .before .args .values)) ≡ true
 zero-slot c = sym (c .before .null-slot-zero .ensures) ∙ not-false (c .before .null-slot-zero .result) (c .if1 .left)
 
 returns : tie.Need-returns
-returns c = c .faulty .ensures ∙ pool-null _ _ _ _ _ (sym (c .before .before .null-slot-zero .ensures) ∙ not-true (c .before .before .null-slot-zero .result) (c .before .if1 .taken))
+returns c = c .faulty .ensures ∙ pool-null xor _ _ _ _ _ (sym (c .before .before .null-slot-zero .ensures) ∙ not-true (c .before .before .null-slot-zero .result) (c .before .if1 .taken))
 
 -- the null slot has a place
 first-place : tie.Need-slice-write-met
@@ -39,15 +40,15 @@ first-place c =
 returns-2 : tie.Need-returns-2
 returns-2 c =
     let s = c .before .before .before .before .before .before .before .before .before .before .before .before .before .before .before in
-    c .faulty2 .ensures ∙ pool-fault _ _ (used s) (as-many s) (nothing-again _ (s .pre .1)) (c .before .before .before .before .before .before .gather .ensures) _ _ (zero-slot (c .before .before .before .before .before .before .before .before .before .before)) (c .before .if2 .taken)
+    c .faulty2 .ensures ∙ pool-fault xor _ _ (used s) (as-many s) (nothing-again _ (s .pre .1)) (c .before .before .before .before .before .before .gather .ensures) _ _ (zero-slot (c .before .before .before .before .before .before .before .before .before .before)) (c .before .if2 .taken)
 
 find-idle-requires : tie.Need-find-idle-requires
-find-idle-requires c κs = let s = c .before .before .before .before .before .before .before .before .before .before .before .before .before .before .before in (s .pre .0 .size, pool-live _ _ (used s) (as-many s) (nothing-again _ (s .pre .1)) (c .before .before .before .before .before .before .gather .ensures))
+find-idle-requires c κs = let s = c .before .before .before .before .before .before .before .before .before .before .before .before .before .before .before in (s .pre .0 .size, pool-live xor _ _ (used s) (as-many s) (nothing-again _ (s .pre .1)) (c .before .before .before .before .before .before .gather .ensures))
 
 returns-3 : tie.Need-returns-3
 returns-3 c =
     let s = c .before .before .before .before .before .before .before .before .before .before .before .before .before .before .before .before .before .before in
-    pool-idle _ _ (used s) (as-many s) (nothing-again _ (s .pre .1)) (c .before .before .before .before .before .before .before .before .before .gather .ensures) _ _ (zero-slot (c .before .before .before .before .before .before .before .before .before .before .before .before .before)) (c .before .before .before .before .if2 .left) (c .before .before .find-idle .ensures)
+    pool-idle-found xor _ _ (used s) (as-many s) (nothing-again _ (s .pre .1)) (c .before .before .before .before .before .before .before .before .before .gather .ensures) _ _ (zero-slot (c .before .before .before .before .before .before .before .before .before .before .before .before .before)) (c .before .before .before .before .if2 .left) (c .before .before .find-idle .ensures)
 
 pub find-over-spec : {M : Type 1} → statement M
 find-over-spec =

@@ -10,17 +10,19 @@ use borrow.Author.Needs.{needs}
 use borrow.Author.Tests.{not-true, not-false}
 use Rattle.books.specs.declared.Entry.{Entry}
 use Rattle.books.specs.Book.{zeroEntry, entryAt}
-use Rattle.slots.specs.Met.{unmet}
-use Rattle.slots.proofs.Seen.{unmet-le}
-use Rattle.walks.specs.Walk.{LiveWalked}
-use Rattle.pools.specs.Check.{gatheredNone, gatherAll}
-use Rattle.pools.proofs.Gather.{gather-done, gather-next, gather-halt, live-unmet}
+use Rattle.shapes.specs.Met.{unmet}
+use Rattle.shapes.proofs.Seen.{unmet-le}
+use Rattle.engines.specs.Walked.{LiveWalked}
+use Rattle.shapes.specs.Faults.{gatheredNone}
+use Rattle.engines.specs.Check.{gatherAll}
+use Rattle.engines.proofs.Stages.{gather-done, gather-next, gather-halt, live-unmet}
+use Rattle.xor.specs.Engine.{xor}
 use Rattle.pools.proofs.check.gather.Statement.{statement}
 use Rattle.pools.proofs.check.gather.Tie as tie
 
 abbrev Inv-loop : tie.InvT-loop
 Inv-loop links met₀ count wanted entries g₀ list₀ met g list =
-    (gatherAll wanted count links list (drop list (take count entries)) met g ≡ gatherAll wanted count links 0 (take count entries) met₀ (gatheredNone count))
+    (gatherAll xor wanted count links list (drop list (take count entries)) met g ≡ gatherAll xor wanted count links 0 (take count entries) met₀ (gatheredNone count))
     × (g .live + unmet met ≤ unmet met₀) × (g .lacks ≤ 65535 * list) × (length met ≡ length met₀) × (list ≤ count)
 
 abbrev μ-loop : tie.MeasureT-loop
@@ -45,14 +47,14 @@ same-entry c =
     ap (entryAt (c .before .before .before .before .before .before .before .before .args .t4)) (c .before .before .wide .ensures .0) ∙ sym (getD-take (c .before .before .before .before .before .before .before .before .args .count) (c .before .before .before .before .before .before .before .before .args .t4) (c .before .before .before .before .loop .list) zeroEntry (omega arith))
 
 walked : (c : tie.After-walk-live Inv-loop μ-loop)
-    → LiveWalked (now (c .before .before .before .before .before .before .before .before .args .links)) (c .before .before .before .before .loop .met) (entryAt (used (c .before .before .before .before .before .before .before .before)) (c .before .before .before .before .loop .list)) (c .walk-live .result) (c .walk-live .last .1 .0)
+    → LiveWalked xor (now (c .before .before .before .before .before .before .before .before .args .links)) (c .before .before .before .before .loop .met) (entryAt (used (c .before .before .before .before .before .before .before .before)) (c .before .before .before .before .loop .list)) (c .walk-live .result) (c .walk-live .last .1 .0)
 walked c =
-    subst (λ (e : Entry). LiveWalked (now (c .before .before .before .before .before .before .before .before .args .links)) (c .before .before .before .before .loop .met) e (c .walk-live .result) (c .walk-live .last .1 .0)) (same-entry c) (c .walk-live .ensures)
+    subst (λ (e : Entry). LiveWalked xor (now (c .before .before .before .before .before .before .before .before .args .links)) (c .before .before .before .before .loop .met) e (c .walk-live .result) (c .walk-live .last .1 .0)) (same-entry c) (c .walk-live .ensures)
 
 returns : tie.Need-returns Inv-loop μ-loop
 returns c =
     rw (c .gather-fault .ensures)
-    (gather-halt _ _ _ _ (used (c .before .before .before .before .before .before .before .before .before .before .before .before .before)) (c .before .before .before .before .before .before .before .before .before .loop .list) _ (walked (c .before .before .before .before .before)) (inside (c .before .before .before .before .before .before .before .before)) (not-true (c .before .before .before .before .before .walk-live .result .ok) (c .before .if1 .taken))
+    (gather-halt xor _ _ _ _ (used (c .before .before .before .before .before .before .before .before .before .before .before .before .before)) (c .before .before .before .before .before .before .before .before .before .loop .list) _ (walked (c .before .before .before .before .before)) (inside (c .before .before .before .before .before .before .before .before)) (not-true (c .before .before .before .before .before .walk-live .result .ok) (c .before .if1 .taken))
     ∙ c .before .before .before .before .before .before .before .before .before .loop .inv .0)
 
 gather-one-requires : tie.Need-gather-one-requires Inv-loop μ-loop
@@ -64,7 +66,7 @@ gather-one-requires c κs = (
 loop-again : tie.Need-loop-again Inv-loop μ-loop
 loop-again c = (
   rw (c .gather-one .ensures .0, same-entry (c .before .before .before .before .before))
-      (gather-next _ _ _ _ (used (c .before .before .before .before .before .before .before .before .before .before .before .before .before)) (c .before .before .before .before .before .before .before .before .before .loop .list) _ (walked (c .before .before .before .before .before)) (inside (c .before .before .before .before .before .before .before .before)) (not-false (c .before .before .before .before .before .walk-live .result .ok) (c .before .if1 .left)))
+      (gather-next xor _ _ _ _ (used (c .before .before .before .before .before .before .before .before .before .before .before .before .before)) (c .before .before .before .before .before .before .before .before .before .loop .list) _ (walked (c .before .before .before .before .before)) (inside (c .before .before .before .before .before .before .before .before)) (not-false (c .before .before .before .before .before .walk-live .result .ok) (c .before .if1 .left)))
       ∙ c .before .before .before .before .before .before .before .before .before .loop .inv .0,
   omega (arith, live-unmet (walked (c .before .before .before .before .before)), c .before .before .before .before .before .before .before .before .before .loop .inv .1, ap (λ g. g .live) (c .gather-one .ensures .0)),
   omega (arith, c .before .before .before .before .before .before .before .before .before .loop .inv .2, c .gather-one .ensures .1),
@@ -75,7 +77,7 @@ loop-again c = (
 returns-2 : tie.Need-returns-2 Inv-loop μ-loop
 returns-2 c =
     let e : length (used (c .before .before .before .before .before)) ≤ c .before .loop .list = omega (arith, as-many (c .before .before .before .before .before)) in
-    gather-done _ _ _ _ (used (c .before .before .before .before .before)) (c .before .loop .list) _ e ∙ c .before .loop .inv .0
+    gather-done xor _ _ _ _ (used (c .before .before .before .before .before)) (c .before .loop .list) _ e ∙ c .before .loop .inv .0
 
 pub gather-spec : {M : Type 1} → statement M
 gather-spec =

@@ -1,7 +1,7 @@
 -- `pools::check::idle_fault`: each answer follows from the tests on the way.
 use borrow.Author.Needs.{needs}
 use borrow.Author.Tests.{eq-eqb, ne-eqb, not-true, not-false}
-use Rattle.pools.specs.Check.{idleFault}
+use Rattle.shapes.specs.Faults.{idleFault}
 use Rattle.pools.proofs.check.idle_fault.Statement.{statement}
 use Rattle.pools.proofs.check.idle_fault.Tie as tie
 

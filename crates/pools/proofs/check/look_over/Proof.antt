@@ -2,27 +2,28 @@
 use mathlib.Core.Path.{sym, _∙_}
 use borrow.Author.Needs.{needs}
 use borrow.Author.Tests.{eq-eqb, ne-eqb, not-true, not-false}
-use lib.ListN.{length}
 use denote.Ref.{now}
-use Rattle.pools.specs.Size.{SizesFit}
-use Rattle.pools.specs.Check.{lookOf}
-use Rattle.pools.proofs.Size.{sizes-fit}
+use Rattle.engines.specs.Sound.{Fit}
+use Rattle.engines.specs.Check.{sizesFit, lookOf}
+use Rattle.engines.proofs.Checked.{fits-exactly}
+use Rattle.xor.specs.Engine.{xor}
 use Rattle.pools.proofs.check.look_over.Statement.{statement}
 use Rattle.pools.proofs.check.look_over.Tie as tie
 
 -- past the first test the sizes fit
-fits : (c : tie.Else1) → SizesFit (length (now (c .before .before .before .before .before .args .links))) (length (now (c .before .before .before .before .before .args .values)))
-fits c = sizes-fit _ _ .0 (sym (c .before .sizes-fit .ensures) ∙ not-false (c .before .sizes-fit .result) (c .if1 .left))
+fits : (c : tie.Else1) → Fit xor (now (c .before .before .before .before .before .args .links)) (now (c .before .before .before .before .before .args .values))
+unfolding sizesFit
+fits c = fits-exactly xor _ _ .0 (sym (c .before .sizes-fit .ensures) ∙ not-false (c .before .sizes-fit .result) (c .if1 .left))
 
 returns : tie.Need-returns
-unfolding lookOf
+unfolding lookOf sizesFit
 returns c = simp (c .refused .ensures, ← c .before .before .sizes-fit .ensures, not-true (c .before .before .sizes-fit .result) (c .before .if1 .taken))
 
 find-requires : tie.Need-find-requires
 find-requires c κs = let s = c .before .before .before .before .before .before in (fits (c .before), s .pre .0 (fits (c .before) .size), s .pre .1)
 
 returns-2 : tie.Need-returns-2
-unfolding lookOf
+unfolding lookOf sizesFit
 returns-2 c =
     simp (
       c .refused2 .ensures,
@@ -33,7 +34,7 @@ returns-2 c =
     )
 
 returns-3 : tie.Need-returns-3
-unfolding lookOf
+unfolding lookOf sizesFit
 returns-3 c =
     simp (
       ← c .before .before .before .before .before .before .before .before .sizes-fit .ensures,

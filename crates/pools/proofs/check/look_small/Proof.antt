@@ -1,7 +1,7 @@
 -- `pools::check::look_small`: the record has a place for each slot, and nothing is met in it.
 use mathlib.Core.Path.{refl}
 use borrow.Author.Needs.{needs}
-use Rattle.pools.specs.Check.{nothingMet}
+use Rattle.shapes.specs.Faults.{nothingMet}
 use Rattle.pools.proofs.check.look_small.Statement.{statement}
 use Rattle.pools.proofs.check.look_small.Tie as tie
 

@@ -5,9 +5,9 @@ use native.Mathlib.Omega.{arith}
 use denote.Ref.{now}
 use borrow.Author.Needs.{needs}
 use borrow.Author.Tests.{not-true, not-false}
-use Rattle.slots.specs.Met.{isMetOf}
-use Rattle.pools.specs.Check.{lowestUnmet}
-use Rattle.pools.proofs.Stages.{lowest-end, lowest-here, lowest-next}
+use Rattle.shapes.specs.Met.{isMetOf}
+use Rattle.shapes.specs.Faults.{lowestUnmet}
+use Rattle.engines.proofs.Stages.{lowest-end, lowest-here, lowest-next}
 use Rattle.pools.proofs.check.lowest_unmet.Statement.{statement}
 use Rattle.pools.proofs.check.lowest_unmet.Tie as tie
 

@@ -1,7 +1,7 @@
 -- `pools::check::null_slot_zero`: each answer follows from the test on the way.
 use borrow.Author.Needs.{needs}
 use borrow.Author.Tests.{eq-eqb, ne-eqb}
-use Rattle.pools.specs.Check.{nullSlotZero}
+use Rattle.engines.specs.Check.{nullSlotZero}
 use Rattle.pools.proofs.check.null_slot_zero.Statement.{statement}
 use Rattle.pools.proofs.check.null_slot_zero.Tie as tie
 

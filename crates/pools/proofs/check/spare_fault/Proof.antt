@@ -1,6 +1,6 @@
 -- `pools::check::spare_fault`: each answer follows from the tests on the way.
 use borrow.Author.Tests.{eq-eqb, ne-eqb, le-leb, lt-leb}
-use Rattle.pools.specs.Check.{spareFault}
+use Rattle.shapes.specs.Faults.{spareFault}
 use Rattle.pools.proofs.check.spare_fault.Statement.{statement}
 use Rattle.pools.proofs.check.spare_fault.Tie as tie
 

@@ -5,9 +5,10 @@ use denote.Ref.{now}
 use borrow.Author.Needs.{needs}
 use Rattle.books.specs.declared.Refusal.{Refusal}
 use Rattle.books.specs.Book.{eight}
-use Rattle.pools.specs.declared.check.Looked.{Looked}
-use Rattle.shares.specs.Calls.{checkCall}
-use Rattle.shares.proofs.Found.{look-number}
+use Rattle.shapes.specs.declared.Looked.{Looked}
+use Rattle.engines.specs.Calls.{checkCall}
+use Rattle.engines.proofs.Looking.{look-number}
+use Rattle.xor.specs.Engine.{xor}
 use Rattle.shares.proofs.check.check.Statement.{statement}
 use Rattle.shares.proofs.check.check.Tie as tie
 
@@ -18,7 +19,7 @@ returns : tie.Need-returns
 unfolding checkCall
 returns c =
     let s = c .before .before .before .before .args in
-    ap (λ (r : Looked). r .refusal) (c .before .look .ensures) ∙ ap numbered (look-number 0 (now (s .links)) (now (s .values)) (eight (s .book)))
+    ap (λ (r : Looked). r .refusal) (c .before .look .ensures) ∙ ap numbered (look-number xor 0 (now (s .links)) (now (s .values)) (eight (s .book)))
 
 pub check-spec : {M : Type 1} → statement M
 check-spec = tie.close (tie.spec (λ c. search needs) returns)

@@ -1,11 +1,11 @@
 -- `shares::clear::clear`: what `on_list` promises, by the test of its number, and what the clear of the list leaves.
 use borrow.Author.Needs.{needs}
-use Rattle.shares.proofs.Reached.{clear-stopped, inside, clear-went}
+use Rattle.shares.proofs.Reached.{clear-early, inside, clear-went}
 use Rattle.shares.proofs.clear.clear.Statement.{statement}
 use Rattle.shares.proofs.clear.clear.Tie as tie
 
 returns : tie.Need-returns
-returns c = clear-stopped _ _ _ _ _ (c .before .before .before .on-list .ensures) (c .if1 .taken)
+returns c = clear-early _ _ _ _ _ (c .before .before .before .on-list .ensures) (c .if1 .taken)
 
 element-copy-out-entry : tie.Need-element-copy-out-entry
 element-copy-out-entry c = inside _ _ _ _ _ (c .before .before .before .before .before .on-list .ensures) (c .before .before .if1 .left) (c .wide .ensures .0)

@@ -3,12 +3,12 @@ use Prim.Native.Nat.{_<_}
 use native.Mathlib.Omega.{arith}
 use denote.Ref.{now}
 use borrow.Author.Needs.{needs}
-use Rattle.shares.proofs.Reached.{read-stopped, inside, read-full, read-fits, read-went}
+use Rattle.shares.proofs.Reached.{read-early, inside, read-full, read-count-fits, read-went}
 use Rattle.shares.proofs.reads.read.Statement.{statement}
 use Rattle.shares.proofs.reads.read.Tie as tie
 
 returns : tie.Need-returns
-returns c = read-stopped _ _ _ _ _ (c .before .before .before .before .on-list .ensures) (c .before .if1 .taken) _ _ _ (c .refused .ensures)
+returns c = read-early _ _ _ _ _ (c .before .before .before .before .on-list .ensures) (c .before .if1 .taken) _ _ _ (c .refused .ensures)
 
 returns-2 : tie.Need-returns-2
 returns-2 c =
@@ -24,7 +24,7 @@ counted c =
     let near = c .before .before .before .before in
     let at = near .before .before .before .before in
     let a = at .before .before .before .before .before .before .before .before .before .args in
-    read-fits _ _ _ _ _ (at .before .before .before .before .before .on-list .ensures) (at .before .before .if1 .left) (a .end) (now (a .buffer)) (a .at) _
+    read-count-fits _ _ _ _ _ (at .before .before .before .before .before .on-list .ensures) (at .before .before .if1 .left) (a .end) (now (a .buffer)) (a .at) _
     (at .read-number .ensures)
     (near .before .before .before .if2 .left)
     _

@@ -1,7 +1,7 @@
 -- `shares::setup::fresh_link`: each answer follows from the tests on the way.
 use borrow.Author.Needs.{needs}
 use borrow.Author.Tests.{lt-ltb, le-ltb}
-use Rattle.shares.specs.Setup.{freshLink}
+use Rattle.xor.specs.Engine.{freshLink}
 use Rattle.shares.proofs.setup.fresh_link.Statement.{statement}
 use Rattle.shares.proofs.setup.fresh_link.Tie as tie
 

@@ -3,7 +3,7 @@ use mathlib.Core.Path.{refl}
 use Prim.Native.Nat.{_-_, _≤_}
 use native.Mathlib.Omega.{arith}
 use borrow.Author.Needs.{needs}
-use Rattle.shares.specs.Setup.{freshLink}
+use Rattle.xor.specs.Engine.{freshLink}
 use Rattle.shares.proofs.Fill.{Filling, fill-none, fill-more, fill-all}
 use Rattle.shares.proofs.setup.fresh_links.Statement.{statement}
 use Rattle.shares.proofs.setup.fresh_links.Tie as tie

@@ -1,6 +1,6 @@
 -- `shares::setup::fresh_value`: each answer follows from the test on the way.
 use borrow.Author.Tests.{eq-eqb, ne-eqb}
-use Rattle.shares.specs.Setup.{freshValue}
+use Rattle.shapes.specs.Setup.{freshValue}
 use Rattle.shares.proofs.setup.fresh_value.Statement.{statement}
 use Rattle.shares.proofs.setup.fresh_value.Tie as tie
 

@@ -3,7 +3,7 @@ use mathlib.Core.Path.{refl}
 use Prim.Native.Nat.{_-_, _≤_}
 use native.Mathlib.Omega.{arith}
 use borrow.Author.Needs.{needs}
-use Rattle.shares.specs.Setup.{freshValue}
+use Rattle.shapes.specs.Setup.{freshValue}
 use Rattle.shares.proofs.Fill.{Filling, fill-none, fill-more, fill-all}
 use Rattle.shares.proofs.setup.fresh_values.Statement.{statement}
 use Rattle.shares.proofs.setup.fresh_values.Tie as tie

@@ -4,31 +4,34 @@ use lib.ListN.{length}
 use denote.Ref.{now}
 use borrow.Author.Needs.{needs}
 use borrow.Author.Tests.{not-true, not-false}
-use Rattle.pools.specs.Size.{SizesFit}
 use Rattle.books.specs.declared.Book.{Book}
-use Rattle.books.specs.Book.{eight}
+use Rattle.books.specs.Book.{mostLists, eight}
 use Rattle.books.specs.Test.{keepsRules}
-use Rattle.shares.specs.Numbers.{decided}
-use Rattle.shares.specs.Setup.{freshBook, setupOf}
-use Rattle.pools.proofs.Size.{sizes-fit}
+use Rattle.shapes.specs.Numbers.{decided}
+use Rattle.engines.specs.Sound.{Fit}
+use Rattle.engines.specs.Check.{sizesFit}
+use Rattle.engines.specs.Calls.{freshBookOf, setupCall}
+use Rattle.engines.proofs.Checked.{fits-exactly}
+use Rattle.xor.specs.Engine.{xor}
 use Rattle.shares.proofs.setup.setup.Statement.{statement}
 use Rattle.shares.proofs.setup.setup.Tie as tie
 
 -- past the first test the sizes fit
-fits : (c : tie.Else1) → SizesFit (length (now (c .before .before .before .before .args .links))) (length (now (c .before .before .before .before .args .values)))
-fits c = sizes-fit _ _ .0 (sym (c .before .sizes-fit .ensures) ∙ not-false (c .before .sizes-fit .result) (c .if1 .left))
+fits : (c : tie.Else1) → Fit xor (now (c .before .before .before .before .args .links)) (now (c .before .before .before .before .args .values))
+unfolding sizesFit
+fits c = fits-exactly xor _ _ .0 (sym (c .before .sizes-fit .ensures) ∙ not-false (c .before .sizes-fit .result) (c .if1 .left))
 
 -- the test of the rules is the model's own
 kept : (c : tie.After-keeps-rules)
-    → c .keeps-rules .result ≡ keepsRules (length (now (c .before .before .before .before .before .before .args .links))) (eight (freshBook (c .before .before .before .before .before .before .args .lists) (c .before .before .before .before .before .before .args .shares) (c .before .before .before .before .before .before .args .limits)))
+    → c .keeps-rules .result ≡ keepsRules (length (now (c .before .before .before .before .before .before .args .links))) (freshBookOf mostLists (c .before .before .before .before .before .before .args .lists) (c .before .before .before .before .before .before .args .shares) (c .before .before .before .before .before .before .args .limits))
 kept c = c .keeps-rules .ensures ∙ ap (λ (b : Book). keepsRules (length (now (c .before .before .before .before .before .before .args .links))) (eight b)) (c .before .fresh-book .ensures)
 
 returns : tie.Need-returns
-unfolding setupOf decided
+unfolding setupCall sizesFit decided
 returns c = simp (c .refused .ensures, ← c .before .before .sizes-fit .ensures, not-true (c .before .before .sizes-fit .result) (c .before .if1 .taken))
 
 returns-2 : tie.Need-returns-2
-unfolding setupOf decided
+unfolding setupCall sizesFit decided
 returns-2 c =
     simp (
       c .refused2 .ensures,
@@ -40,7 +43,7 @@ returns-2 c =
     )
 
 returns-3 : tie.Need-returns-3
-unfolding setupOf decided
+unfolding setupCall sizesFit decided
 returns-3 c =
     simp (
       c .before .before .fresh-values .ensures,

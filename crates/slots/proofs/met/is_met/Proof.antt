@@ -6,8 +6,8 @@ use lib.Dec.{eqb}
 use lib.ListN.{List·getD-eq-default}
 use denote.Ref.{now}
 use borrow.Author.Needs.{needs}
-use Rattle.slots.specs.Met.{isMetOf}
-use Rattle.slots.proofs.Seen.{read-any}
+use Rattle.shapes.specs.Met.{isMetOf}
+use Rattle.shapes.proofs.Seen.{read-any}
 use Rattle.slots.proofs.met.is_met.Statement.{statement}
 use Rattle.slots.proofs.met.is_met.Tie as tie
 

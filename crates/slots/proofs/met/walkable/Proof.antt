@@ -3,7 +3,7 @@ use mathlib.Core.Path.{ap}
 use mathlib.Core.Bool.{not}
 use borrow.Author.Needs.{needs}
 use borrow.Author.Tests.{eq-eqb, ne-eqb}
-use Rattle.slots.specs.Walk.{walkable}
+use Rattle.shapes.specs.Walk.{walkable}
 use Rattle.slots.proofs.met.walkable.Statement.{statement}
 use Rattle.slots.proofs.met.walkable.Tie as tie
 

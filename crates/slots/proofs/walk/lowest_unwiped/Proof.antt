@@ -8,7 +8,8 @@ use denote.Ref.{now}
 use borrow.Author.Needs.{needs}
 use Rattle.books.specs.Book.{nullSlot}
 use Rattle.chains.specs.Chain.{cell}
-use Rattle.slots.specs.Walk.{idleFirst, unwipedFrom}
+use Rattle.slots.specs.Walk.{idleFirst}
+use Rattle.shapes.specs.Walk.{unwipedFrom}
 use Rattle.slots.proofs.walk.lowest_unwiped.Statement.{statement}
 use Rattle.slots.proofs.walk.lowest_unwiped.Tie as tie
 

@@ -1,33 +1,30 @@
 -- `slots::walk::walk_idle`: at each turn the path is the slots passed so far and then the path from here.
 use mathlib.Core.Path.{_≡_, refl, sym, ap, _∙_}
-use mathlib.Core.Bool.{true, false, not}
+use mathlib.Core.Bool.{true, false}
 use mathlib.Core.List.{List, [], _∷_, _++_, append-nil}
-use Prim.Native.Nat.{ℕ, suc, _+_, _<_}
-use native.Mathlib.Nat.{add-zero, add-assoc}
+use Prim.Native.Nat.{ℕ, _+_, _<_}
+use native.Mathlib.Nat.{add-zero}
 use native.Mathlib.Omega.{arith}
 use lib.ListN.{length, length-set}
 use denote.Ref.{now}
 use borrow.Author.Needs.{needs}
 use borrow.Author.Tests.{not-true, not-false}
 use Rattle.books.specs.Book.{nullSlot}
-use Rattle.chains.specs.Chain.{cell}
-use Rattle.slots.specs.Met.{isMetOf, markOf, unmarked, unmet}
-use Rattle.slots.specs.Walk.{walkable, idleOnward, idleFirst, unwipedFrom}
-use Rattle.slots.proofs.Seen.{unmet-mark, met-place, unmark-mark}
-use Rattle.slots.proofs.Unwiped.{unlike-on}
-use Rattle.slots.proofs.Going.{Guarded, guarded-start, guarded-from, guarded-on, guarded-place, guarded-length, guarded-some, guarded-room, walkable-both, Firsts, firsts-start, firsts-on, idle-walked, idle-unvalued, idle-unwalkable}
+use Rattle.shapes.specs.Met.{isMetOf, markOf, unmarked, unmet}
+use Rattle.shapes.specs.Walk.{walkable, unwipedFrom}
+use Rattle.slots.specs.Walk.{idleFirst}
+use Rattle.shapes.proofs.Seen.{unmet-mark, met-place, unmark-mark}
+use Rattle.shapes.proofs.Unwiped.{unlike-on}
+use Rattle.shapes.proofs.Going.{Guarded, guarded-start, guarded-from, guarded-on, guarded-place, guarded-length, guarded-some, guarded-room}
+use Rattle.shapes.proofs.Walks.{walkable-both}
+use Rattle.xor.specs.Engine.{xor}
+use Rattle.slots.proofs.Idle.{Firsts, firsts-start, firsts-on, idle-walked, idle-unvalued, idle-unwalkable}
 use Rattle.slots.proofs.walk.walk_idle.Statement.{statement}
 use Rattle.slots.proofs.walk.walk_idle.Tie as tie
-use Rattle.slots.proofs.walk.walk_idle.Reads as reads
-use Rattle.slots.proofs.walk.walk_idle.Lts as lts
-use Rattle.books.proofs.wide.Reads as wide-reads
-use Rattle.slots.proofs.met.walkable.Reads as walkable-reads
-use Rattle.slots.proofs.walk.ended.Reads as ended-reads
-use Rattle.slots.proofs.walk.refused.Reads as refused-reads
 
 abbrev Inv-loop : tie.InvT-loop
 Inv-loop links values met₀ free slot₀ many₀ unlike₀ met slot many unlike =
-    (passed : List ℕ) × Guarded idleOnward links (unmarked met₀) slot₀ passed met slot many × Firsts links slot₀ passed slot many × (unlike ≡ 0 → unwipedFrom values passed nullSlot ≡ nullSlot)
+    (passed : List ℕ) × Guarded (xor .idleOnward links) (xor .idleFits links) (length links) (unmarked met₀) slot₀ passed met slot many × Firsts links slot₀ passed slot many × (unlike ≡ 0 → unwipedFrom values passed nullSlot ≡ nullSlot)
 
 abbrev μ-loop : tie.MeasureT-loop
 μ-loop links values met₀ free slot₀ many₀ unlike₀ met slot many unlike = unmet met
@@ -37,16 +34,16 @@ module _ (c : tie.At-loop Inv-loop μ-loop) where
   abbrev start : tie.Start Inv-loop μ-loop
   start = c .before .before .before .before .before .before .before .before .before
 
-  walks : walkable (now (start .args .links)) (now (start .args .met)) ≡ true
+  walks : walkable (length (now (start .args .links))) (now (start .args .met)) ≡ true
   walks = sym (c .before .before .before .walkable .ensures) ∙ not-false _ (c .before .before .if2 .left)
 
   abbrev passed : List ℕ
   passed = c .loop .inv .0
 
-  goes : Guarded idleOnward (now (start .args .links)) (now (start .args .met)) (start .args .free .head) passed (c .loop .met) (c .loop .slot) (c .loop .length)
+  goes : Guarded (xor .idleOnward (now (start .args .links))) (xor .idleFits (now (start .args .links))) (length (now (start .args .links))) (now (start .args .met)) (start .args .free .head) passed (c .loop .met) (c .loop .slot) (c .loop .length)
   unfolding markOf
   goes =
-      guarded-from (unmark-mark (now (start .args .met)) (walkable-both (now (start .args .links)) (now (start .args .met)) walks .1)) (c .before .wide .ensures .0) (c .loop .inv .1)
+      guarded-from (unmark-mark (now (start .args .met)) (walkable-both (length (now (start .args .links))) (now (start .args .met)) walks .1)) (c .before .wide .ensures .0) (c .loop .inv .1)
 
   firsts : idleFirst (now (start .args .links)) (c .loop .length) (start .args .free .head) ≡ passed
   firsts =
@@ -64,23 +61,23 @@ module _ (c : tie.At-loop Inv-loop μ-loop) where
 
   -- the record has its length again
   same : {met′ : List ℕ} → met′ ≡ unmarked (c .loop .met) → length met′ ≡ length (now (start .args .met))
-  same e = ap length e ∙ length-set (c .loop .met) 0 0 ∙ guarded-length goes ∙ walkable-both (now (start .args .links)) (now (start .args .met)) walks .0
+  same e = ap length e ∙ length-set (c .loop .met) 0 0 ∙ guarded-length goes ∙ walkable-both (length (now (start .args .links))) (now (start .args .met)) walks .0
 
 -- the null slot has a place
 first-place : tie.Need-slice-write-met Inv-loop μ-loop
 first-place c =
     let a = c .before .before .before .before .before .before .before .args in
-    let w : walkable (now (a .links)) (now (a .met)) ≡ true = sym (c .before .walkable .ensures) ∙ not-false _ (c .if2 .left) in
-    let h : 0 < length (now (a .met)) = met-place (now (a .met)) nullSlot (walkable-both (now (a .links)) (now (a .met)) w .1) in
+    let w : walkable (length (now (a .links))) (now (a .met)) ≡ true = sym (c .before .walkable .ensures) ∙ not-false _ (c .if2 .left) in
+    let h : 0 < length (now (a .met)) = met-place (now (a .met)) nullSlot (walkable-both (length (now (a .links))) (now (a .met)) w .1) in
     search needs
 
 loop-holds : tie.Need-loop-holds Inv-loop μ-loop
 unfolding markOf
 loop-holds c =
     let a = c .before .before .before .before .before .before .before .before .args in
-    let w : walkable (now (a .links)) (now (a .met)) ≡ true = sym (c .before .before .walkable .ensures) ∙ not-false _ (c .before .if2 .left) in (
+    let w : walkable (length (now (a .links))) (now (a .met)) ≡ true = sym (c .before .before .walkable .ensures) ∙ not-false _ (c .before .if2 .left) in (
       [],
-      guarded-from (sym (unmark-mark (now (a .met)) (walkable-both (now (a .links)) (now (a .met)) w .1))) refl (guarded-start idleOnward (now (a .links)) (now (a .met)) (c .wide .result) w),
+      guarded-from (sym (unmark-mark (now (a .met)) (walkable-both (length (now (a .links))) (now (a .met)) w .1))) refl (guarded-start (xor .idleOnward (now (a .links))) (xor .idleFits (now (a .links))) (length (now (a .links))) (now (a .met)) (c .wide .result) w),
       firsts-start (now (a .links)) (c .wide .result),
       λ h. refl,
     )
@@ -113,7 +110,7 @@ loop-again c =
     let e = c .before .before .before in
     let at = here e in (
       passed at ++ at .loop .slot ∷ [],
-      guarded-on (at .loop .inv .1) (fresh e) refl (c .wide2 .ensures .0),
+      guarded-on (at .loop .inv .1) (fresh e) refl refl (c .wide2 .ensures .0),
       firsts-on (now (start at .args .links)) (at .before .wide .result) (passed at) (at .loop .slot) (at .loop .length) (at .loop .inv .2) (c .wide2 .ensures .0),
       unlike-on (now (start at .args .values)) (passed at) (at .loop .slot) (at .loop .unlike) (at .loop .inv .3),
     )

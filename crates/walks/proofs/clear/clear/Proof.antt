@@ -4,14 +4,15 @@ use native.Mathlib.Omega.{arith}
 use lib.ListN.{length}
 use borrow.Author.Needs.{needs}
 use borrow.Author.Tests.{not-true, not-false}
-use Rattle.walks.specs.Clear.{clearOn}
-use Rattle.walks.proofs.Clearing.{clear-none, clear-turn, clear-stops}
+use Rattle.engines.specs.Reads.{clearOn}
+use Rattle.xor.specs.Engine.{xor}
+use Rattle.walks.proofs.Turns.{clear-none, clear-turn, clear-stops}
 use Rattle.walks.proofs.clear.clear.Statement.{statement}
 use Rattle.walks.proofs.clear.clear.Tie as tie
 
 abbrev Inv-loop : tie.InvT-loop
 Inv-loop links₀ values₀ count entry₀ rest₀ left₀ links values entry rest left =
-    (length links ≡ length links₀) × (length values ≡ length values₀) × (clearOn left links values entry rest ≡ clearOn left₀ links₀ values₀ entry₀ rest₀)
+    (length links ≡ length links₀) × (length values ≡ length values₀) × (clearOn xor left links values entry rest ≡ clearOn xor left₀ links₀ values₀ entry₀ rest₀)
 
 abbrev μ-loop : tie.MeasureT-loop
 μ-loop links₀ values₀ count entry₀ rest₀ left₀ links values entry rest left = left

@@ -5,15 +5,14 @@ use lib.ListN.{length}
 use denote.Ref.{now}
 use borrow.Author.Needs.{needs}
 use borrow.Author.Tests.{not-true, not-false}
-use Rattle.slots.specs.Slot.{InPool}
-use Rattle.slots.proofs.Slot.{in-pool, not-in-pool}
-use Rattle.walks.proofs.Read.{no-slot}
-use Rattle.walks.proofs.Fill.{Filling, fill-begins, fill-ends, fill-full, fill-goes-on}
+use Rattle.xor.specs.Slot.{InPool}
+use Rattle.xor.proofs.Slot.{in-pool, not-in-pool}
+use Rattle.walks.proofs.Fill.{no-slot, FillingPart, fill-begins, fill-ends, fill-full, fill-goes-on}
 use Rattle.walks.proofs.reads.fill.Statement.{statement}
 use Rattle.walks.proofs.reads.fill.Tie as tie
 
 abbrev Inv-loop : tie.InvT-loop
-Inv-loop links values start out₀ slot₀ previous₀ count₀ out slot previous count = Filling links values start out₀ out previous slot count
+Inv-loop links values start out₀ slot₀ previous₀ count₀ out slot previous count = FillingPart links values start out₀ out previous slot count
 
 abbrev μ-loop : tie.MeasureT-loop
 μ-loop links values start out₀ slot₀ previous₀ count₀ out slot previous count = length out₀ - count

@@ -1,8 +1,7 @@
 -- `walks::reads::read`: what `fill` left of the part from `at` on, put into the whole buffer.
 use denote.Ref.{now}
 use borrow.Author.Needs.{needs}
-use Rattle.walks.proofs.Read.{nothing-read}
-use Rattle.walks.proofs.Fill.{part-filled}
+use Rattle.walks.proofs.Fill.{part-filled, none-read}
 use Rattle.walks.proofs.reads.read.Statement.{statement}
 use Rattle.walks.proofs.reads.read.Tie as tie
 
@@ -14,7 +13,7 @@ returns c =
 returns-2 : tie.Need-returns-2
 returns-2 c =
     let a = c .before .before .before .before .args in
-    nothing-read (now (a .links)) (now (a .values)) (a .start) (now (a .buffer)) (a .at) (c .if1 .left)
+    none-read (now (a .links)) (now (a .values)) (a .start) (now (a .buffer)) (a .at) (c .if1 .left)
 
 pub read-spec : {M : Type 1} → statement M
 read-spec =

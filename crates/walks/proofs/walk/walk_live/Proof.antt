@@ -4,6 +4,7 @@ use mathlib.Core.Bool.{true, false}
 use mathlib.Core.List.{List, [], _∷_, _++_}
 use Prim.Native.Nat.{ℕ, _+_, _<_}
 use native.Mathlib.Omega.{arith}
+use lib.Bits.{bitXor}
 use lib.ListN.{length, length-set}
 use denote.Ref.{now}
 use borrow.Author.Needs.{needs}
@@ -11,23 +12,20 @@ use borrow.Author.Tests.{not-true, not-false}
 use Rattle.books.specs.Book.{nullSlot}
 use Rattle.chains.specs.Chain.{cell, lastOr}
 use Rattle.chains.proofs.Chain.{last-append}
-use Rattle.slots.specs.Met.{isMetOf, markOf, unmarked, unmet}
-use Rattle.slots.specs.Walk.{walkable}
-use Rattle.slots.proofs.Seen.{unmet-mark, met-place, unmark-mark}
-use Rattle.slots.proofs.Going.{Guarded, guarded-start, guarded-from, guarded-counted, guarded-on, guarded-place, guarded-length, guarded-some, guarded-room, walkable-both}
-use Rattle.walks.specs.Walk.{liveOnward}
-use Rattle.walks.proofs.Walks.{live-walked, live-unwalkable}
+use Rattle.shapes.specs.Met.{isMetOf, markOf, unmarked, unmet}
+use Rattle.shapes.specs.Walk.{walkable}
+use Rattle.shapes.proofs.Seen.{unmet-mark, met-place, unmark-mark}
+use Rattle.shapes.proofs.Going.{Guarded, guarded-start, guarded-from, guarded-counted, guarded-on, guarded-place, guarded-length, guarded-some, guarded-room}
+use Rattle.shapes.proofs.Walks.{walkable-both}
+use Rattle.shapes.specs.declared.End.the-variants.{Front}
+use Rattle.xor.specs.Engine.{xor}
+use Rattle.walks.proofs.Live.{live-walked, live-unwalkable}
 use Rattle.walks.proofs.walk.walk_live.Statement.{statement}
 use Rattle.walks.proofs.walk.walk_live.Tie as tie
-use Rattle.walks.proofs.walk.walk_live.Reads as reads
-use Rattle.walks.proofs.walk.walk_live.Lts as lts
-use Rattle.books.proofs.wide.Reads as wide-reads
-use Rattle.slots.proofs.met.walkable.Reads as walkable-reads
-use Rattle.walks.proofs.walk.ended.Reads as ended-reads
 
 abbrev Inv-loop : tie.InvT-loop
 Inv-loop links met₀ list slot₀ last₀ many₀ met slot last many =
-    (passed : List ℕ) × Guarded liveOnward links (unmarked met₀) slot₀ passed met slot many × (last ≡ lastOr nullSlot passed)
+    (passed : List ℕ) × Guarded (xor .onward Front links) (xor .fits links) (length links) (unmarked met₀) slot₀ passed met slot many × (last ≡ lastOr nullSlot passed)
 
 abbrev μ-loop : tie.MeasureT-loop
 μ-loop links met₀ list slot₀ last₀ many₀ met slot last many = unmet met
@@ -37,34 +35,34 @@ module _ (c : tie.At-loop Inv-loop μ-loop) where
   abbrev start : tie.Start Inv-loop μ-loop
   start = c .before .before .before .before .before .before .before
 
-  walks : walkable (now (start .args .links)) (now (start .args .met)) ≡ true
+  walks : walkable (length (now (start .args .links))) (now (start .args .met)) ≡ true
   walks = sym (c .before .before .before .walkable .ensures) ∙ not-false _ (c .before .before .if1 .left)
 
-  goes : Guarded liveOnward (now (start .args .links)) (now (start .args .met)) (start .args .list .head) (c .loop .inv .0) (c .loop .met) (c .loop .slot) (c .loop .length)
+  goes : Guarded (xor .onward Front (now (start .args .links))) (xor .fits (now (start .args .links))) (length (now (start .args .links))) (now (start .args .met)) (start .args .list .head) (c .loop .inv .0) (c .loop .met) (c .loop .slot) (c .loop .length)
   unfolding markOf
   goes =
-      guarded-from (unmark-mark (now (start .args .met)) (walkable-both (now (start .args .links)) (now (start .args .met)) walks .1)) (c .before .wide .ensures .0) (c .loop .inv .1)
+      guarded-from (unmark-mark (now (start .args .met)) (walkable-both (length (now (start .args .links))) (now (start .args .met)) walks .1)) (c .before .wide .ensures .0) (c .loop .inv .1)
 
   -- the record has its length again
-  same : {passed real met′ : List ℕ} {slot many : ℕ} → Guarded liveOnward (now (start .args .links)) (now (start .args .met)) (start .args .list .head) passed real slot many
+  same : {passed real met′ : List ℕ} {slot many : ℕ} → Guarded (xor .onward Front (now (start .args .links))) (xor .fits (now (start .args .links))) (length (now (start .args .links))) (now (start .args .met)) (start .args .list .head) passed real slot many
       → met′ ≡ unmarked real → length met′ ≡ length (now (start .args .met))
-  same {real = real} g e = ap length e ∙ length-set real 0 0 ∙ guarded-length g ∙ walkable-both (now (start .args .links)) (now (start .args .met)) walks .0
+  same {real = real} g e = ap length e ∙ length-set real 0 0 ∙ guarded-length g ∙ walkable-both (length (now (start .args .links))) (now (start .args .met)) walks .0
 
 -- the null slot has a place
 first-place : tie.Need-slice-write-met Inv-loop μ-loop
 first-place c =
     let a = c .before .before .before .before .before .args in
-    let w : walkable (now (a .links)) (now (a .met)) ≡ true = sym (c .before .walkable .ensures) ∙ not-false _ (c .if1 .left) in
-    let h : 0 < length (now (a .met)) = met-place (now (a .met)) nullSlot (walkable-both (now (a .links)) (now (a .met)) w .1) in
+    let w : walkable (length (now (a .links))) (now (a .met)) ≡ true = sym (c .before .walkable .ensures) ∙ not-false _ (c .if1 .left) in
+    let h : 0 < length (now (a .met)) = met-place (now (a .met)) nullSlot (walkable-both (length (now (a .links))) (now (a .met)) w .1) in
     search needs
 
 loop-holds : tie.Need-loop-holds Inv-loop μ-loop
 unfolding markOf
 loop-holds c =
     let a = c .before .before .before .before .before .before .args in
-    let w : walkable (now (a .links)) (now (a .met)) ≡ true = sym (c .before .before .walkable .ensures) ∙ not-false _ (c .before .if1 .left) in (
+    let w : walkable (length (now (a .links))) (now (a .met)) ≡ true = sym (c .before .before .walkable .ensures) ∙ not-false _ (c .before .if1 .left) in (
       [],
-      guarded-from (sym (unmark-mark (now (a .met)) (walkable-both (now (a .links)) (now (a .met)) w .1))) refl (guarded-start liveOnward (now (a .links)) (now (a .met)) (c .wide .result) w),
+      guarded-from (sym (unmark-mark (now (a .met)) (walkable-both (length (now (a .links))) (now (a .met)) w .1))) refl (guarded-start (xor .onward Front (now (a .links))) (xor .fits (now (a .links))) (length (now (a .links))) (now (a .met)) (c .wide .result) w),
       refl,
     )
 
@@ -86,14 +84,14 @@ module _ (c : tie.After-pass Inv-loop μ-loop) where
   ends : from .loop .slot ≡ lastOr nullSlot more
   ends = sym (last-append nullSlot (from .loop .inv .0) (from .loop .slot ∷ []))
 
-  after : c .pass .result ≡ liveOnward (lastOr nullSlot (from .loop .inv .0)) (cell (now (start from .args .links)) (from .loop .slot))
-  after = c .pass .ensures .0 ∙ ap (λ l. liveOnward l (cell (now (start from .args .links)) (from .loop .slot))) (from .loop .inv .2)
+  onto : c .pass .result ≡ bitXor (cell (now (start from .args .links)) (from .loop .slot)) (lastOr nullSlot (from .loop .inv .0))
+  onto = c .pass .ensures .0 ∙ ap (λ l. bitXor (cell (now (start from .args .links)) (from .loop .slot)) l) (from .loop .inv .2)
 
-  -- the walk on its way after it
-  one : Guarded liveOnward (now (start from .args .links)) (now (start from .args .met)) (start from .args .list .head) more (c .pass .last .1 .0) (c .pass .result) (from .loop .length + 1)
-  one = guarded-on (goes from) (fresh (c .before .before)) (c .pass .ensures .1) after
+  -- the walk on its way onto it
+  one : Guarded (xor .onward Front (now (start from .args .links))) (xor .fits (now (start from .args .links))) (length (now (start from .args .links))) (now (start from .args .met)) (start from .args .list .head) more (c .pass .last .1 .0) (c .pass .result) (from .loop .length + 1)
+  one = guarded-on (goes from) (fresh (c .before .before)) refl (c .pass .ensures .1) onto
 
--- the slot after it is passed too, or the walk stops before that one
+-- the slot onto it is passed too, or the walk stops before that one
 fresh-next : (c : tie.Else3 Inv-loop μ-loop) → isMetOf (c .before .before .before .before .before .pass .last .1 .0) (c .before .before .before .before .before .pass .result) ≡ false
 fresh-next c = sym (c .before .is-met2 .ensures) ∙ c .if3 .left
 
@@ -124,11 +122,11 @@ loop-again : tie.Need-loop-again Inv-loop μ-loop
 loop-again c =
     let p = c .before .before .before .before .before .before .before .before .before in
     let at = from p in
-    let g = guarded-on (at .loop .inv .1) (fresh (p .before .before)) (p .pass .ensures .1) (after p) in (
+    let g = guarded-on (at .loop .inv .1) (fresh (p .before .before)) refl (p .pass .ensures .1) (onto p) in (
       more p ++ p .pass .result ∷ [],
       guarded-counted (omega arith)
-          (guarded-on g (fresh-next (c .before .before .before .before)) (c .before .before .pass2 .ensures .1)
-          (c .before .before .pass2 .ensures .0 ∙ ap (λ l. liveOnward l (cell (now (start at .args .links)) (p .pass .result))) (ends p))),
+          (guarded-on g (fresh-next (c .before .before .before .before)) refl (c .before .before .pass2 .ensures .1)
+          (c .before .before .pass2 .ensures .0 ∙ ap (λ l. bitXor (cell (now (start at .args .links)) (p .pass .result)) l) (ends p))),
       sym (last-append nullSlot (more p) (p .pass .result ∷ [])),
     )
 

@@ -1,0 +1,3 @@
+-- The cases pass, each by one computed test.
+pub mod Cases
+pub mod Reach

@@ -1,0 +1,3 @@
+-- What a reader of the cases believes: 01's marked pools as cases, and a pool for every number of the table.
+pub mod Cases
+pub mod Reach

@@ -1,0 +1,1 @@
+// Chosen pools, computed: document 01's marked pools, and a pool for every number of the table. It has no functions.

@@ -1,3 +1,0 @@
--- Laws of digits, for the crates above to cite.
-pub mod Digits
-pub mod Written

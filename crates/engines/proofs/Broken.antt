@@ -1,0 +1,253 @@
+-- Rules 10 to 15 over any engine: a pool is sound or breaks one of them first, and then the check gives that one, with its list and position.
+use mathlib.Core.Path.{_≡_, refl, sym, ap, _∙_}
+use mathlib.Core.Logic.{_↔_, _≢_, _⊎_, inl, inr}
+use mathlib.Core.Bool.{Bool, true, false}
+use mathlib.Core.List.{List, [], _++_}
+use Prim.Native.Nat.{ℕ, _+_, _≤_, _<_}
+use native.Mathlib.Nat.{not-suc-le-zero, zero-add}
+use native.Mathlib.Decide.{ℕ-discrete, decLt}
+use native.Mathlib.Omega.{arith}
+use lib.Dec.{eqb}
+use lib.ListN.{length}
+use borrow.Author.Tests.{eqb-true, eq-eqb, ne-eqb}
+use Rattle.books.specs.declared.Free.{Free}
+use Rattle.books.specs.declared.Entry.{Entry}
+use Rattle.books.specs.Book.{nullSlot, entryAt}
+use Rattle.books.proofs.Tests.{and-both, both-and, not-both}
+use Rattle.chains.specs.Count.{count}
+use Rattle.chains.specs.Chain.{cell}
+use Rattle.chains.proofs.Count.{count-append}
+use Rattle.shapes.specs.Met.{markAll}
+use Rattle.shapes.specs.Walk.{Path, unwipedFrom, Lowest}
+use Rattle.shapes.proofs.Unwiped.{unwiped-none, unwiped-lowest}
+use Rattle.shapes.specs.declared.Fault.{Fault}
+use Rattle.shapes.specs.declared.Found.{Found}
+use Rattle.shapes.specs.Shape.{Shape, chainAt, joinedUp, everySlot, lacks}
+use Rattle.shapes.specs.Faults.{fault, noFault, nothingMet, gatheredNone, idleFault}
+use Rattle.engines.specs.Engine.{Engine}
+use Rattle.engines.specs.Sound.{Fit, Sound}
+use Rattle.engines.specs.Laws.{Lawful}
+use Rattle.engines.specs.FirstFault.{Distinct, NullZero, Chained, AllChained, LowestMissing, NoneMissing, AllWiped, LowestOver, SharesUncovered, PoolBreaks}
+use Rattle.engines.specs.FirstFault.PoolBreaks.{ten, eleven, twelve, thirteen, fourteen, fifteen}
+use Rattle.engines.specs.Check.{nullSlotZero, idleFound, poolFound}
+use Rattle.engines.proofs.Leads.{passes-distinct, distinct-part}
+use Rattle.engines.proofs.Missing.{full-covers, covers-full, missing-lowest, lowest-missing, lowest-one, over-one}
+use Rattle.engines.proofs.Stops.{gather-halts, gather-halted}
+use Rattle.engines.proofs.Idle.{idle-fresh, idle-stands, idle-stops, stage-12, stage-13, stage-14, stage-over, stage-short, stage-fine}
+use Rattle.engines.proofs.Chains.{nothing-seen, nothing-walkable, roundOf, round-walkable, chained-sums, chained-known, round-told, pathOf, path-chained, all-sums, all-path, all-known, all-counted}
+
+-- the test of slot 0 is true exactly where its links and its value are 0
+pub null-exactly : {E : Engine} → Lawful E → (links : E .Links) (values : List ℕ) → nullSlotZero E links values ≡ true ↔ NullZero E links values
+unfolding nullSlotZero
+null-exactly {E} L links values = (
+  λ h. let (a, b) = and-both (E .nullTest links) (eqb (cell values nullSlot) 0) h in record { link = L .nullTold links .0 a; value = eqb-true _ _ b },
+  λ z. both-and _ _ (L .nullTold links .1 (z .link)) (eq-eqb _ _ (z .value)),
+)
+
+-- ---- the pool, stage by stage
+
+module _ (E : Engine) (wanted : ℕ) (links : E .Links) (values : List ℕ) (es : List Entry) (free : Free) where
+  pool-null : nullSlotZero E links values ≡ false → poolFound E wanted links values es free .fault ≡ fault 10 0 0
+  unfolding poolFound
+  pool-null z = rw z
+
+  pool-fault : nullSlotZero E links values ≡ true → roundOf E wanted links es .gathered .fault .rule ≢ 0
+      → poolFound E wanted links values es free .fault ≡ roundOf E wanted links es .gathered .fault
+  unfolding poolFound
+  pool-fault z n = rw (z, ne-eqb _ _ n)
+
+  pub pool-idle : nullSlotZero E links values ≡ true → roundOf E wanted links es .gathered .fault .rule ≡ 0
+      → poolFound E wanted links values es free ≡ idleFound (E .size links) values free (length es) (roundOf E wanted links es) (pathOf E wanted links values es free)
+  unfolding poolFound
+  pool-idle z h = rw (z, eq-eqb _ _ h)
+
+  -- the fault that the idle stages give after the walk along the idle chain
+  abbrev stagesOf : Path → Fault
+  stagesOf path =
+      idleFault (markAll (roundOf E wanted links es .met) (path .slots)) (E .size links) (length es) (roundOf E wanted links es .gathered) (path .ok) (length (path .slots)) (unwipedFrom values (path .slots) nullSlot)
+
+module _ {E : Engine} (L : Lawful E) (wanted : ℕ) (links : E .Links) (values : List ℕ) (es : List Entry) (free : Free) (fit : Fit E links values) where
+  some : 0 < E .size links
+  some = omega (arith, fit .size .least)
+
+  abbrev given : Fault
+  given = poolFound E wanted links values es free .fault
+
+  -- ---- all chains are there
+
+  module _ (z : NullZero E links values) {s : Shape} (A : AllChained E links es free s) where
+    stages : given ≡ stagesOf E wanted links values es free (record { ok = true; slots = s .idle })
+    stages =
+        ap (λ (f : Found). f .fault) (pool-idle E wanted links values es free (null-exactly L links values .1 z) (ap (λ f. f .rule) (all-sums L wanted links values es free fit A .fault)))
+        ∙ ap (stagesOf E wanted links values es free) (all-path L wanted links values es free fit A)
+
+    no-null-idle : count 0 (s .idle) ≡ 0
+    no-null-idle = go (decLt 0 (count 0 (s .idle)))
+      where
+        go : Dec (0 < count 0 (s .idle)) → count 0 (s .idle) ≡ 0
+        go (yes h) = absurd (not-suc-le-zero (A .distinct .inside 0 (omega (arith, count-append 0 (joinedUp (s .chains)) (s .idle))) .0))
+        go (no h) = omega arith
+
+    gives-13 : {slot : ℕ} → LowestMissing (E .size links) s slot → given ≡ fault 13 0 slot
+    gives-13 {slot} u =
+        stages
+        ∙ stage-13 _ (E .size links) (length es) _ (length (s .idle)) _
+        (λ e. omega (arith, full-covers (A .distinct) some (omega (arith, all-counted L wanted links values es free fit A)) slot (u .inside .0) (u .inside .1), u .none))
+        ∙ ap (fault 13 0) (lowest-missing (E .size links) _ (everySlot s) (all-known L wanted links values es free fit A) some slot (u .inside .0) (u .inside .1) (u .none) (u .lowest))
+
+    module _ (c : NoneMissing (E .size links) s) where
+      all : roundOf E wanted links es .gathered .live + length (s .idle) + 1 ≡ E .size links
+      all = omega (arith, covers-full (A .distinct) some c, all-counted L wanted links values es free fit A)
+
+      gives-14 : {slot : ℕ} → Lowest values (s .idle) slot → given ≡ fault 14 0 slot
+      gives-14 {slot} low =
+          let n : unwipedFrom values (s .idle) nullSlot ≢ nullSlot = λ e. low .notWiped (unwiped-none values (s .idle) no-null-idle .0 e slot (low .inside)) in
+          stages ∙ stage-14 _ (E .size links) (length es) _ (length (s .idle)) _ all n ∙ ap (fault 14 0) (lowest-one (unwiped-lowest values (s .idle) no-null-idle n) low)
+
+      module _ (w : AllWiped values s) where
+        clean : unwipedFrom values (s .idle) nullSlot ≡ nullSlot
+        clean = unwiped-none values (s .idle) no-null-idle .1 w
+
+        gives-15 : {l : ℕ} → LowestOver es (s .chains) l ⊎ SharesUncovered es s l → given ≡ fault 15 l 0
+        gives-15 {l} (inl o) =
+            let n : roundOf E wanted links es .gathered .over ≢ length es = λ e. omega (arith, all-sums L wanted links values es free fit A .over refl .0 e l (o .below), o .over) in
+            let (k, e, p) = all-sums L wanted links values es free fit A .lowest refl n in
+            stages ∙ stage-over _ (E .size links) (length es) _ (length (s .idle)) _ all clean n ∙ ap (λ i. fault 15 i 0) (omega (arith, over-one p o))
+        gives-15 {l} (inr u) =
+            stages
+            ∙ stage-short _ (E .size links) (length es) _ (length (s .idle)) _ all clean (all-sums L wanted links values es free fit A .over refl .1 (u .short))
+            (omega (arith, u .few, all-sums L wanted links values es free fit A .lacking))
+            ∙ ap (λ i. fault 15 i 0) (sym (u .all))
+
+        pub gives-none : ((l : ℕ) → l < length es → length (chainAt s l) ≤ entryAt es l .limit) → lacks es (s .chains) ≤ length (s .idle) → given ≡ noFault
+        gives-none short spare =
+            stages
+            ∙ stage-fine _ (E .size links) (length es) _ (length (s .idle)) _ all clean (all-sums L wanted links values es free fit A .over refl .1 short)
+            (omega (arith, all-sums L wanted links values es free fit A .lacking))
+
+  -- ---- the check gives the rule that is first broken
+
+  pub pool-breaks : {f : Fault} → PoolBreaks E links values es free f → given ≡ f
+  pool-breaks (ten e n) = pool-null E wanted links values es free (go (nullSlotZero E links values) refl) ∙ sym e
+    where
+      go : (b : Bool) → nullSlotZero E links values ≡ b → b ≡ false
+      go true k = absurd (n (null-exactly L links values .0 k))
+      go false k = refl
+  pool-breaks (eleven {l} {place} e z B) =
+      pool-fault E wanted links values es free (null-exactly L links values .1 z) (λ k. omega (arith, sym (ap (λ f. f .rule) halted) ∙ k)) ∙ halted ∙ ap (fault 11 l) (sym (B .placed)) ∙ sym e
+    where
+      halted : roundOf E wanted links es .gathered .fault ≡ fault 11 l (length (B .slots))
+      halted =
+          gather-halted E L wanted (length es) links 0 es (nothingMet (E .size links)) (gatheredNone (length es)) [] l (B .chains) (B .slots) (B .next) (nothing-seen (E .size links)) (nothing-walkable (E .size links) some)
+          (record { below = B .below; chained = B .chained; leads = B .leads; distinct = B .distinct; broken = B .broken })
+          ∙ ap (λ i. fault 11 i (length (B .slots))) (zero-add l)
+  pool-breaks (twelve {place} e z B) =
+      ap (λ (f : Found). f .fault) (pool-idle E wanted links values es free (null-exactly L links values .1 z) (ap (λ f. f .rule) (chained-sums L wanted links es some (B .chained) D .fault)))
+      ∙ ap (stagesOf E wanted links values es free) path
+      ∙ stage-12 _ (E .size links) (length es) _ (length (B .slots)) _ ∙ ap (fault 12 0) (sym (B .placed)) ∙ sym e
+    where
+      D : Distinct (E .size links) (joinedUp (B .chains))
+      D = distinct-part (joinedUp (B .chains)) (joinedUp (B .chains) ++ B .slots) (λ y. omega (arith, count-append y (joinedUp (B .chains)) (B .slots))) (B .distinct)
+
+      path : pathOf E wanted links values es free ≡ record { ok = false; slots = B .slots }
+      path =
+          idle-stops E links values _ free (fit .same) (round-walkable L wanted links es some) (joinedUp (B .chains)) (chained-known L wanted links es some (B .chained) D) (B .slots) (B .distinct) (B .next) (B .leads) (B .broken)
+  pool-breaks (thirteen e z A u) = gives-13 z A u ∙ sym e
+  pool-breaks (fourteen e z A c low) = gives-14 z A c low ∙ sym e
+  pool-breaks (fifteen e z A c w o) = gives-15 z A c w o ∙ sym e
+
+  -- ---- a pool breaks a rule or is sound
+
+  abbrev Broken : Type 0
+  Broken = (f : Fault) × PoolBreaks E links values es free f
+
+  abbrev Fine : Type 0
+  Fine = (s : Shape) × Sound E links values es free s
+
+  pub pool-some : ((f : Fault) × PoolBreaks E links values es free f) ⊎ ((s : Shape) × Sound E links values es free s)
+  pool-some = start (nullSlotZero E links values) refl
+    where
+      r-over : ℕ
+      r-over = roundOf E wanted links es .gathered .over
+
+      spare : NullZero E links values → (s : Shape) → AllChained E links es free s → NoneMissing (E .size links) s → AllWiped values s
+          → ((l : ℕ) → l < length es → length (chainAt s l) ≤ entryAt es l .limit) → Dec (length (s .idle) < lacks es (s .chains)) → Broken ⊎ Fine
+      spare z s A c w short (yes h) = inl (fault 15 (length es) 0, fifteen refl z A c w (inr (record { all = refl; short = short; few = h })))
+      spare z s A c w short (no h) =
+          inr (
+            s,
+            record {
+              fit = fit;
+              lists = A .chained .lists;
+              once = c;
+              only = A .distinct .inside;
+              entry = A .chained .entry;
+              live = A .chained .live;
+              freeRecord = A .freeRecord;
+              idle = A .idle;
+              wiped = w;
+              nullLink = z .link;
+              nullValue = z .value;
+              short = short;
+              spare = omega arith;
+            },
+          )
+
+      limits : NullZero E links values → (s : Shape) → AllChained E links es free s → NoneMissing (E .size links) s → AllWiped values s → Dec (r-over ≡ length es) → Broken ⊎ Fine
+      limits z s A c w (yes e) = spare z s A c w (all-sums L wanted links values es free fit A .over refl .0 e) (decLt (length (s .idle)) (lacks es (s .chains)))
+      limits z s A c w (no n) = let (l, e, o) = all-sums L wanted links values es free fit A .lowest refl n in inl (fault 15 l 0, fifteen refl z A c w (inl o))
+
+      wiped : NullZero E links values → (s : Shape) → AllChained E links es free s → NoneMissing (E .size links) s → Dec (unwipedFrom values (s .idle) nullSlot ≡ nullSlot) → Broken ⊎ Fine
+      wiped z s A c (yes e) = limits z s A c (unwiped-none values (s .idle) (no-null-idle z A) .0 e) (ℕ-discrete r-over (length es))
+      wiped z s A c (no n) = inl (fault 14 0 (unwipedFrom values (s .idle) nullSlot), fourteen refl z A c (unwiped-lowest values (s .idle) (no-null-idle z A) n))
+
+      covered : NullZero E links values → (s : Shape) → AllChained E links es free s → Dec (length (everySlot s) + 1 ≡ E .size links) → Broken ⊎ Fine
+      covered z s A (yes e) = wiped z s A (full-covers (A .distinct) some e) (ℕ-discrete (unwipedFrom values (s .idle) nullSlot) nullSlot)
+      covered z s A (no n) =
+          let (i, k, l) = missing-lowest (E .size links) _ (everySlot s) (all-known L wanted links values es free fit A) some (A .distinct) n in
+          inl (_, thirteen refl z A (record { inside = i; none = k; lowest = l }))
+
+      idles : NullZero E links values → (cs : List (List ℕ)) → Chained E links es cs → Distinct (E .size links) (joinedUp cs) → (ok : Bool) → pathOf E wanted links values es free .ok ≡ ok → Broken ⊎ Fine
+      idles z cs C D true e =
+          let s : Shape = record { chains = cs; idle = pathOf E wanted links values es free .slots } in
+          covered z s (path-chained L wanted links values es free fit cs C D e) (ℕ-discrete (length (everySlot s) + 1) (E .size links))
+      idles z cs C D false e =
+          let K = chained-known L wanted links es some C D in
+          let (next, l, b) = idle-stands E links values _ free (fit .same) (round-walkable L wanted links es some) (joinedUp cs) K e in
+          inl (
+            fault 12 0 (length (pathOf E wanted links values es free .slots)),
+            twelve refl z (record {
+              chains = cs;
+              chained = C;
+              slots = pathOf E wanted links values es free .slots;
+              next = next;
+              leads = l;
+              distinct = passes-distinct (E .size links) _ (joinedUp cs) K _ D (idle-fresh E links values _ free);
+              placed = refl;
+              broken = b;
+            }),
+          )
+
+      lives : NullZero E links values → Dec (roundOf E wanted links es .gathered .fault .rule ≡ 0) → Broken ⊎ Fine
+      lives z (yes e) = let (cs, C, D) = round-told L wanted links es some e in idles z cs C D (pathOf E wanted links values es free .ok) refl
+      lives z (no n) =
+          let (l, cs, xs, next, H) = gather-halts E L wanted (length es) links 0 es (nothingMet (E .size links)) (gatheredNone (length es)) [] (nothing-seen (E .size links))
+          (record { inside = λ y h. absurd (not-suc-le-zero h); once = λ y. omega arith }) (nothing-walkable (E .size links) some) refl n in
+          inl (
+            fault 11 l (length xs),
+            eleven refl z (record {
+              below = H .below;
+              chains = cs;
+              chained = H .chained;
+              slots = xs;
+              next = next;
+              leads = H .leads;
+              distinct = H .distinct;
+              placed = refl;
+              broken = H .broken;
+            }),
+          )
+
+      start : (b : Bool) → nullSlotZero E links values ≡ b → Broken ⊎ Fine
+      start true e = lives (null-exactly L links values .0 e) (ℕ-discrete (roundOf E wanted links es .gathered .fault .rule) 0)
+      start false e = inl (fault 10 0 0, ten refl (λ z. not-both _ (null-exactly L links values .1 z) e))

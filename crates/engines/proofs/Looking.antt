@@ -1,0 +1,146 @@
+-- The check and then the test of the list, as code takes them, and that together with the call's own tests they decide.
+use mathlib.Core.Path.{_≡_, refl, sym, ap, _∙_}
+use mathlib.Core.Logic.{_≢_}
+use mathlib.Core.Bool.{Bool, true, false, cond, _&&_}
+use mathlib.Core.List.{List, _++_}
+use Prim.Native.Nat.{ℕ, suc, _-_, _<_}
+use native.Mathlib.Omega.{arith}
+use lib.Dec.{leb, eqb}
+use lib.ListN.{length}
+use borrow.Author.Tests.{eqb-true, eq-eqb, ne-eqb, leb-false, lt-leb}
+use Rattle.books.specs.Book.{entryAt, AnyBook}
+use Rattle.shapes.specs.declared.End.{End}
+use Rattle.shapes.specs.declared.Looked.{Looked}
+use Rattle.shapes.specs.Shape.{Shape}
+use Rattle.shapes.specs.Ends.{nearOf}
+use Rattle.shapes.specs.Numbers.{Test, firstThat, decided}
+use Rattle.shapes.specs.Tests.{readOwnTests}
+use Rattle.shapes.specs.Faults.{refusedBy}
+use Rattle.shapes.proofs.Numbers.{Numbered, nil, cons, first-first, first-then, decided-refused, decided-done}
+use Rattle.engines.specs.Engine.{Engine}
+use Rattle.engines.specs.Sound.{Fit, SoundBook}
+use Rattle.engines.specs.Laws.{Lawful}
+use Rattle.engines.specs.Check.{sizesFit, checkFound, lookOf}
+use Rattle.engines.specs.Reads.{countRead}
+use Rattle.engines.specs.Calls.{checkTests, listTests, onListOf}
+use Rattle.engines.proofs.Checked.{fits-exactly, found-exactly}
+use Rattle.engines.proofs.Found.{found-length, shorter}
+use Rattle.engines.proofs.Reading.{reads}
+use Rattle.engines.proofs.Outcomes.{placed}
+
+-- ---- the number that the check gives
+
+module _ (E : Engine) (wanted : ℕ) (links : E .Links) (values : List ℕ) (b : AnyBook) where
+  pub look-number : lookOf E wanted links values b .refusal .number ≡ firstThat (checkTests E links values b wanted)
+  unfolding lookOf
+  look-number = go (sizesFit E links values) (eqb (checkFound E wanted links values b .fault .rule) 0) refl refl
+    where
+      go : (s n : Bool) → sizesFit E links values ≡ s → eqb (checkFound E wanted links values b .fault .rule) 0 ≡ n
+          → lookOf E wanted links values b .refusal .number ≡ firstThat (checkTests E links values b wanted)
+      go true true e f = rw (e, f)
+      go true false e f = rw (e, f)
+      go false n e f = rw e
+
+-- ---- the check, and then the test of the list
+
+-- `seen` is what the check gave, and `early` the number after the test of the list
+module _ (E : Engine) (links : E .Links) (values : List ℕ) (b : AnyBook) (l : ℕ) (seen : Looked) (e : seen ≡ lookOf E l links values b) (early : ℕ) (n : early ≡ cond (eqb (seen .refusal .number) 0 && leb (b .lists) l) 4 (seen .refusal .number)) where
+  -- together they say what `onListOf` says
+  both : cond (eqb early 0) seen (refusedBy early) ≡ onListOf E links values b l
+  unfolding onListOf lookOf
+  both = go (sizesFit E links values) (eqb (checkFound E l links values b .fault .rule) 0) (leb (b .lists) l) refl refl refl
+    where
+      go : (x y z : Bool) → sizesFit E links values ≡ x → eqb (checkFound E l links values b .fault .rule) 0 ≡ y → leb (b .lists) l ≡ z → cond (eqb early 0) seen (refusedBy early) ≡ onListOf E links values b l
+      go true true true ex ey ez = simp (n, e, ex, ey, ez)
+      go true true false ex ey ez = simp (n, e, ex, ey, ez)
+      go true false z ex ey ez = simp (n, e, ex, ey)
+      go false y z ex ey ez = simp (n, e, ex)
+
+  pub early-stopped : early ≢ 0 → refusedBy early ≡ onListOf E links values b l
+  early-stopped d = rw (ne-eqb early 0 d) at both
+
+  pub early-passed : early ≡ 0 → (seen ≡ onListOf E links values b l) × (seen .refusal .number ≡ 0)
+  early-passed z = (rw (eq-eqb early 0 z) at both, go (eqb (seen .refusal .number) 0) refl)
+    where
+      go : (x : Bool) → eqb (seen .refusal .number) 0 ≡ x → seen .refusal .number ≡ 0
+      go true ex = eqb-true _ _ ex
+      go false ex = sym (rw ex at n) ∙ z
+
+-- ---- once 1, 3 and 4 do not apply
+
+module _ (E : Engine) (links : E .Links) (values : List ℕ) (b : AnyBook) (l : ℕ) where
+  pub on-list-number : onListOf E links values b l .refusal .number ≡ firstThat (listTests E links values b l)
+  unfolding onListOf lookOf
+  on-list-number = go (sizesFit E links values) (eqb (checkFound E l links values b .fault .rule) 0) (leb (b .lists) l) refl refl refl
+    where
+      go : (x y z : Bool) → sizesFit E links values ≡ x → eqb (checkFound E l links values b .fault .rule) 0 ≡ y → leb (b .lists) l ≡ z → onListOf E links values b l .refusal .number ≡ firstThat (listTests E links values b l)
+      go true true true ex ey ez = rw (ex, ey, ez)
+      go true true false ex ey ez = rw (ex, ey, ez)
+      go true false z ex ey ez = rw (ex, ey)
+      go false y z ex ey ez = rw ex
+
+  pub on-list-passed : onListOf E links values b l .refusal .number ≡ 0 → Fit E links values × (checkFound E l links values b .fault .rule ≡ 0) × (l < b .lists)
+  unfolding onListOf lookOf
+  on-list-passed n = go (sizesFit E links values) (eqb (checkFound E l links values b .fault .rule) 0) (leb (b .lists) l) refl refl refl
+    where
+      no : (k : ℕ) → onListOf E links values b l .refusal .number ≡ k → 0 < k → ⊥
+      no k e p = omega (arith, n)
+
+      go : (x y z : Bool) → sizesFit E links values ≡ x → eqb (checkFound E l links values b .fault .rule) 0 ≡ y → leb (b .lists) l ≡ z → Fit E links values × (checkFound E l links values b .fault .rule ≡ 0) × (l < b .lists)
+      go true true true ex ey ez = absurd (no 4 (rw (ex, ey, ez)) (omega arith))
+      go true true false ex ey ez = (fits-exactly E links values .0 ex, eqb-true _ _ ey, leb-false _ _ ez)
+      go true false z ex ey ez = absurd (no 3 (rw (ex, ey)) (omega arith))
+      go false y z ex ey ez = absurd (no 1 (rw ex) (omega arith))
+
+  pub on-list-found : onListOf E links values b l .refusal .number ≡ 0 → onListOf E links values b l .found ≡ checkFound E l links values b
+  unfolding onListOf lookOf
+  on-list-found n = go (on-list-passed n)
+    where
+      go : Fit E links values × (checkFound E l links values b .fault .rule ≡ 0) × (l < b .lists) → onListOf E links values b l .found ≡ checkFound E l links values b
+      go (f, z, below) = rw (fits-exactly E links values .1 f, eq-eqb (checkFound E l links values b .fault .rule) 0 z, lt-leb (b .lists) l below)
+
+  -- then there is a sound shape, with the list in it
+  pub on-list-sound : Lawful E → onListOf E links values b l .refusal .number ≡ 0 → (s : Shape) × SoundBook E links values b s × (l < b .lists)
+  on-list-sound L n =
+      let (f, z, below) = on-list-passed n in
+      let (s, S) = found-exactly L l links values b f .0 z in
+      (s, S, below)
+
+  pub on-list-below : Lawful E → onListOf E links values b l .refusal .number ≡ 0 → (l < b .places) × (l < length (b .entries))
+  on-list-below L n = let (s, S, below) = on-list-sound L n in (omega (arith, S .rules .most), omega (arith, S .rules .there))
+
+  pub on-list-length : Lawful E → onListOf E links values b l .refusal .number ≡ 0 → checkFound E l links values b .length < 4096
+  on-list-length L n = let (s, S, below) = on-list-sound L n in omega (arith, found-length L S l below, shorter S l below)
+
+  -- a read that is not refused counts fewer than 4,096 values
+  pub read-count : Lawful E → (end : End) (buffer : List ℕ) (at : ℕ) → onListOf E links values b l .refusal .number ≡ 0 → firstThat (readOwnTests (checkFound E l links values b .length) (length buffer) at) ≡ 0
+      → countRead E end links values (nearOf end (entryAt (b .entries) l)) buffer at < 4096
+  read-count L end buffer at n z =
+      let (s, S, below) = on-list-sound L n in
+      let (p, q) = placed (checkFound E l links values b .length) (length buffer) at z in
+      omega (arith, reads L S l below end buffer at (omega (arith, found-length L S l below)) .counted, shorter S l below)
+
+  -- ---- what the call then gives
+
+  suc-ne-zero : (n : ℕ) → suc n ≢ 0
+  suc-ne-zero n e = omega arith
+
+  pub list-numbered : Numbered (listTests E links values b l)
+  list-numbered = cons (suc-ne-zero 0) (cons (suc-ne-zero 2) (cons (suc-ne-zero 3) nil))
+
+  module _ {A : Type 0} (us : List Test) (done : A) (refused : ℕ → A) where
+    -- 1, 3 or 4 decides
+    pub by-list : onListOf E links values b l .refusal .number ≢ 0 → decided (listTests E links values b l ++ us) done refused ≡ refused (onListOf E links values b l .refusal .number)
+    by-list d =
+        let e : firstThat (listTests E links values b l ++ us) ≡ onListOf E links values b l .refusal .number = first-first (listTests E links values b l) us (λ k. d (on-list-number ∙ k)) ∙ sym on-list-number in
+        decided-refused done refused (listTests E links values b l ++ us) (λ k. d (sym e ∙ k)) ∙ ap refused e
+
+    -- a test of the call's own decides
+    pub by-call : onListOf E links values b l .refusal .number ≡ 0 → firstThat us ≢ 0 → decided (listTests E links values b l ++ us) done refused ≡ refused (firstThat us)
+    by-call n d =
+        let e : firstThat (listTests E links values b l ++ us) ≡ firstThat us = first-then us list-numbered (sym on-list-number ∙ n) in
+        decided-refused done refused (listTests E links values b l ++ us) (λ k. d (sym e ∙ k)) ∙ ap refused e
+
+    -- none applies
+    pub goes : onListOf E links values b l .refusal .number ≡ 0 → firstThat us ≡ 0 → decided (listTests E links values b l ++ us) done refused ≡ done
+    goes n z = decided-done done refused (listTests E links values b l ++ us) (first-then us list-numbered (sym on-list-number ∙ n) ∙ z)

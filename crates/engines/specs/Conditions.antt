@@ -1,0 +1,47 @@
+-- 01's table of numbers: for each call the conditions in the order in which they are tested, said of the sound shape. What runs is in `Calls`.
+use mathlib.Core.Path.{_≡_}
+use mathlib.Core.Logic.{_⊎_}
+use mathlib.Core.List.{List, [], _∷_, _++_}
+use Prim.Native.Nat.{ℕ, _+_, _≤_, _<_}
+use lib.ListN.{length, take}
+use Rattle.books.specs.Book.{entryAt, AnyBook}
+use Rattle.shapes.specs.Shape.{Shape, chainAt, lacks}
+use Rattle.shapes.specs.Numbers.{Condition, condition}
+use Rattle.shapes.specs.Setup.{SetupRules}
+use Rattle.engines.specs.Engine.{Engine}
+use Rattle.engines.specs.Sound.{Fit, SoundBook}
+
+module _ (E : Engine) (links : E .Links) (values : List ℕ) where
+  -- 1: "lengths differ, or N under 2 or over 4,096"; 2: "setup's L, shares or limits break the book rules"
+  abbrev pub setupConditions : (places lists : ℕ) → List ℕ → List ℕ → List Condition
+  setupConditions places lists shares limits = condition 1 (Fit E links values → ⊥) ∷ condition 2 (SetupRules (E .size links) places lists shares limits → ⊥) ∷ []
+
+module _ (E : Engine) (links : E .Links) (values : List ℕ) (b : AnyBook) where
+  -- the sound shape of the pool, and a fact of it
+  abbrev pub OfShape : (Shape → Type 0) → Type 0
+  OfShape Fact = (s : Shape) × SoundBook E links values b s × Fact s
+
+  -- 1, and 3: "not sound"
+  abbrev pub checkConditions : List Condition
+  checkConditions = condition 1 (Fit E links values → ⊥) ∷ condition 3 (((s : Shape) × SoundBook E links values b s) → ⊥) ∷ []
+
+  module _ (l : ℕ) where
+    -- 4: "list number not below L"
+    abbrev pub listConditions : List Condition
+    listConditions = checkConditions ++ condition 4 (b .lists ≤ l) ∷ []
+
+    -- 6: "length equals limit"; 7: "under the limit, length at least the share, and free slots no more than the sum of lacks"
+    abbrev pub pushConditions : List Condition
+    pushConditions =
+        listConditions
+        ++ condition 6 (OfShape (λ s. length (chainAt s l) ≡ entryAt (b .entries) l .limit))
+        ∷ condition 7 (OfShape (λ s. (length (chainAt s l) < entryAt (b .entries) l .limit) × (entryAt (b .entries) l .share ≤ length (chainAt s l)) × (length (s .idle) ≤ lacks (take (b .lists) (b .entries)) (s .chains))))
+        ∷ []
+
+    -- 5: "the list is empty"
+    abbrev pub popConditions : List Condition
+    popConditions = listConditions ++ condition 5 (OfShape (λ s. chainAt s l ≡ [])) ∷ []
+
+    -- 8: "`at` past the buffer's end, or fewer than length places from `at`", of a buffer with `bufferSize` places
+    abbrev pub readConditions : ℕ → ℕ → List Condition
+    readConditions bufferSize at = listConditions ++ condition 8 (OfShape (λ s. (bufferSize < at) ⊎ (bufferSize < at + length (chainAt s l)))) ∷ []

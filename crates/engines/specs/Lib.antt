@@ -1,0 +1,15 @@
+-- What a reader of the calls believes, whatever the links are: what an engine is, what a sound pool is, the calls, when each number is given, and what a done call leaves.
+pub mod Engine
+pub mod Sound
+pub mod Laws
+pub mod Conditions
+pub mod Check
+pub mod Look
+pub mod FirstFault
+pub mod Walked
+pub mod Reads
+pub mod Calls
+pub mod Done
+pub mod Moves
+pub mod Rows
+pub mod Trace

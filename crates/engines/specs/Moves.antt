@@ -1,0 +1,69 @@
+-- The nine calls on a pool that is set up, as moves, over any engine: what a call is made on, the number that it gives, and what it leaves. And what a list holds there, as upstream's `view` has it.
+use mathlib.Core.Path.{_≡_}
+use mathlib.Core.List.{List}
+use Prim.Native.Nat.{ℕ, _<_}
+use Rattle.books.specs.Book.{wipeWord, AnyBook}
+use Rattle.chains.specs.Count.{count}
+use Rattle.chains.specs.Chain.{cell}
+use Rattle.shapes.specs.declared.End.the-variants.{Front, Back}
+use Rattle.shapes.specs.Ends.{contents}
+use Rattle.shapes.specs.Shape.{Shape, chainAt}
+use Rattle.shapes.specs.Moves.{Move, check, askLength, pushBack, pushFront, popBack, popFront, readForward, readBackward, clear}
+use Rattle.engines.specs.Engine.{Engine}
+use Rattle.engines.specs.Sound.{SoundBook}
+use Rattle.engines.specs.Calls.{Called, checkCall, lengthCall, pushCall, popCall, clearCall, readCall}
+
+-- every slice and the newest book
+pub record State (E : Engine) : Type 0 where
+  pub links : E .Links
+  pub values : List ℕ
+  pub book : AnyBook
+
+-- the state that a call leaves
+abbrev pub left : {E : Engine} → Called E → State E
+left r = record { links = r .links; values = r .values; book = r .book }
+
+module _ (E : Engine) where
+  -- the number that the call gives
+  abbrev pub numberOf : State E → Move → ℕ
+  numberOf st check = checkCall E (st .links) (st .values) (st .book) .number
+  numberOf st (askLength l) = lengthCall E (st .links) (st .values) (st .book) l .refusal .number
+  numberOf st (pushBack l value) = pushCall E (st .links) (st .values) (st .book) l Back value .number
+  numberOf st (pushFront l value) = pushCall E (st .links) (st .values) (st .book) l Front value .number
+  numberOf st (popBack l) = popCall E (st .links) (st .values) (st .book) l Back .number
+  numberOf st (popFront l) = popCall E (st .links) (st .values) (st .book) l Front .number
+  numberOf st (readForward l buffer at) = readCall E (st .links) (st .values) (st .book) l Front buffer at .answer .refusal .number
+  numberOf st (readBackward l buffer at) = readCall E (st .links) (st .values) (st .book) l Back buffer at .answer .refusal .number
+  numberOf st (clear l) = clearCall E (st .links) (st .values) (st .book) l .number
+
+  -- what the call leaves. Check, length and the reads are lent the slices to read alone, and return no book
+  abbrev pub after : State E → Move → State E
+  after st check = st
+  after st (askLength l) = st
+  after st (pushBack l value) = left (pushCall E (st .links) (st .values) (st .book) l Back value)
+  after st (pushFront l value) = left (pushCall E (st .links) (st .values) (st .book) l Front value)
+  after st (popBack l) = left (popCall E (st .links) (st .values) (st .book) l Back)
+  after st (popFront l) = left (popCall E (st .links) (st .values) (st .book) l Front)
+  after st (readForward l buffer at) = st
+  after st (readBackward l buffer at) = st
+  after st (clear l) = left (clearCall E (st .links) (st .values) (st .book) l)
+
+  -- 01: "popping the front until the list is empty": pops at the front of list l, each done, until one gives 5
+  pub data PoppedOut (l : ℕ) : State E → State E → Type 0 where
+    ends : {st : State E} → numberOf st (popFront l) ≡ 5 → PoppedOut l st st
+    goes : {st t : State E} → numberOf st (popFront l) ≡ 0 → PoppedOut l (after st (popFront l)) t → PoppedOut l st t
+
+  -- the pool is sound (upstream: `wf`), list l is one of its lists, and holds the values vs (upstream: `view`)
+  pub record View (st : State E) (l : ℕ) (vs : List ℕ) : Type 0 where
+    pub shape : Shape
+    pub sound : SoundBook E (st .links) (st .values) (st .book) shape
+    pub listed : l < st .book .lists
+    pub holds : contents (st .values) (chainAt shape l) ≡ vs
+
+  -- the pool is sound: there is a sound shape
+  abbrev pub SoundState : State E → Type 0
+  SoundState st = (s : Shape) × SoundBook E (st .links) (st .values) (st .book) s
+
+  -- the pool is sound, and every free slot's value is the wipe word
+  abbrev pub FreeWiped : State E → Type 0
+  FreeWiped st = (s : Shape) × SoundBook E (st .links) (st .values) (st .book) s × ((y : ℕ) → 0 < count y (s .idle) → cell (st .values) y ≡ wipeWord)

@@ -1,0 +1,62 @@
+-- Two results that a promise of the C face allows are equal: the number, what stands at the word for the answer, the book and every cell.
+use mathlib.Core.Path.{_≡_, sym, ap, _∙_}
+use mathlib.Core.List.{List}
+use Prim.Native.Nat.{ℕ}
+use Rattle.books.specs.Outcome.{Outcome}
+use Rattle.faces.specs.Face.{Changed, Handed, Told, Shown, setupFace, checkFace, lengthFace, pushBackFace, pushFrontFace, popBackFace, popFrontFace, readForwardFace, readBackwardFace, clearFace}
+use Rattle.faces.specs.Meaning.{OneChange, OnePop, OneLength, OneRead}
+
+one-change : (o : Outcome Changed) → OneChange o
+one-change o n n′ book book′ links links′ values values′ e f =
+    let g = e ∙ sym f in
+    (ap (λ (x : Outcome Changed). x .answer .number) g, ap (λ (x : Outcome Changed). x .answer .book) g, ap (λ (x : Outcome Changed). x .links) g, ap (λ (x : Outcome Changed). x .values) g)
+
+one-pop : (o : Outcome Handed) → OnePop o
+one-pop o n n′ v v′ book book′ links links′ values values′ e f =
+    let g = e ∙ sym f in
+    (ap (λ (x : Outcome Handed). x .answer .number) g, ap (λ (x : Outcome Handed). x .answer .value) g, ap (λ (x : Outcome Handed). x .answer .book) g, ap (λ (x : Outcome Handed). x .links) g, ap (λ (x : Outcome Handed). x .values) g)
+
+one-length : (o : Told) → OneLength o
+one-length o n n′ v v′ e f =
+    let g = e ∙ sym f in
+    (ap (λ (x : Told). x .number) g, ap (λ (x : Told). x .length) g)
+
+one-read : (o : Shown) → OneRead o
+one-read o n n′ v v′ buffer buffer′ e f =
+    let g = e ∙ sym f in
+    (ap (λ (x : Shown). x .number) g, ap (λ (x : Shown). x .count) g, ap (λ (x : Shown). x .buffer) g)
+
+-- ---- the ten functions
+
+module _ (links values : List ℕ) where
+  pub setup-face-one : (lists : ℕ) (shares limits words : List ℕ) → OneChange (setupFace links values lists shares limits words)
+  setup-face-one lists shares limits words = one-change _
+
+  module _ (words : List ℕ) where
+    pub check-face-one : (n n′ : ℕ) → n ≡ checkFace links values words → n′ ≡ checkFace links values words → n ≡ n′
+    check-face-one n n′ e f = e ∙ sym f
+
+    module _ (l : ℕ) where
+      pub length-face-one : OneLength (lengthFace links values words l)
+      length-face-one = one-length _
+
+      pub push-back-face-one : (value : ℕ) → OneChange (pushBackFace links values words l value)
+      push-back-face-one value = one-change _
+
+      pub push-front-face-one : (value : ℕ) → OneChange (pushFrontFace links values words l value)
+      push-front-face-one value = one-change _
+
+      pub pop-back-face-one : OnePop (popBackFace links values words l)
+      pop-back-face-one = one-pop _
+
+      pub pop-front-face-one : OnePop (popFrontFace links values words l)
+      pop-front-face-one = one-pop _
+
+      pub read-forward-face-one : (buffer : List ℕ) (at : ℕ) → OneRead (readForwardFace links values words l buffer at)
+      read-forward-face-one buffer at = one-read _
+
+      pub read-backward-face-one : (buffer : List ℕ) (at : ℕ) → OneRead (readBackwardFace links values words l buffer at)
+      read-backward-face-one buffer at = one-read _
+
+      pub clear-face-one : OneChange (clearFace links values words l)
+      clear-face-one = one-change _

@@ -1,2 +1,0 @@
--- Laws of the lines that are shown.
-pub mod Rows

@@ -1,0 +1,2 @@
+-- The promise of the table, which no code calls.
+pub mod Promised

@@ -1,0 +1,10 @@
+-- Laws of what is true of no engine in particular.
+pub mod Numbers
+pub mod Shape
+pub mod Ends
+pub mod Seen
+pub mod Unwiped
+pub mod Going
+pub mod Walks
+pub mod Tried
+pub mod Changes

@@ -1,0 +1,80 @@
+-- The faults of a pool as the check gathers them, in the order of 02 b)'s rules 11 to 15: what runs once the walks are made.
+use mathlib.Core.Bool.{Bool, cond, _&&_}
+use mathlib.Core.List.{List}
+use Prim.Native.Nat.{ℕ, zero, suc, _+_, _-_}
+use lib.Dec.{ltb, leb, eqb}
+use lib.ListN.{length, replicate}
+use Rattle.books.specs.declared.Entry.{Entry}
+use Rattle.books.specs.Book.{nullSlot}
+use Rattle.shapes.specs.Met.{isMetOf}
+use Rattle.shapes.specs.declared.Fault.{Fault}
+use Rattle.shapes.specs.declared.Gathered.{Gathered}
+use Rattle.shapes.specs.declared.Found.{Found}
+use Rattle.shapes.specs.declared.Looked.{Looked}
+
+abbrev pub fault : ℕ → ℕ → ℕ → Fault
+fault rule list place = record { rule = rule; list = list; place = place }
+
+abbrev pub noFault : Fault
+noFault = fault 0 0 0
+
+-- before the first list none of the N slots was met
+unfoldable pub nothingMet : ℕ → List ℕ
+nothingMet size = replicate size 0
+
+-- and no list is over its limit
+abbrev pub gatheredNone : ℕ → Gathered
+gatheredNone lists = record { fault = noFault; live = 0; lacks = 0; over = lists; length = 0 }
+
+module _ (wanted lists : ℕ) where
+  -- one list, number `list`, whose walk passed `many` slots
+  abbrev pub gatherOne : ℕ → Entry → ℕ → Gathered → Gathered
+  gatherOne list e many g =
+      record {
+        fault = g .fault;
+        live = g .live + many;
+        lacks = g .lacks + (e .share - many);
+        over = cond (eqb (g .over) lists && ltb (e .limit) many) list (g .over);
+        length = cond (eqb list wanted) many (g .length);
+      }
+
+-- rule 11: the first place of a live chain that is no fresh slot, or its length where it does not end at the tail
+abbrev pub gatherFault : ℕ → ℕ → Gathered → Gathered
+gatherFault list many g = record { fault = fault 11 list many; live = g .live; lacks = g .lacks; over = g .over; length = g .length }
+
+-- what was gathered, and the record of slots met
+pub record Round : Type 0 where
+  pub gathered : Gathered
+  pub met : List ℕ
+
+abbrev pub round : Gathered → List ℕ → Round
+round g met = record { gathered = g; met = met }
+
+-- the lowest slot from `slot` on that was not met
+abbrev pub lowestUnmet : List ℕ → ℕ → ℕ → ℕ
+lowestUnmet met slot zero = slot
+lowestUnmet met slot (suc n) = cond (isMetOf met slot) (lowestUnmet met (suc slot) n) slot
+
+-- rule 15: the lowest list over its limit, or else L where the free slots do not cover what the lists lack
+unfoldable pub spareFault : ℕ → ℕ → ℕ → ℕ → Fault
+spareFault lists over lacks free = cond (eqb over lists) (cond (leb lacks free) noFault (fault 15 lists 0)) (fault 15 over 0)
+
+-- rules 12 to 15, once the idle chain was walked too: `met` are the slots met on all walks, `ended` whether the idle walk came to its end,
+-- `free` how many slots it passed, and `unwiped` the lowest of them that is not wiped, or 0
+unfoldable pub idleFault : List ℕ → ℕ → ℕ → Gathered → Bool → ℕ → ℕ → Fault
+idleFault met size lists g ended free unwiped =
+    cond ended
+    (cond (eqb (g .live + free + 1) size)
+    (cond (eqb unwiped nullSlot)
+    (spareFault lists (g .over) (g .lacks) free)
+    (fault 14 0 unwiped))
+    (fault 13 0 (lowestUnmet met 1 (size - 1))))
+    (fault 12 0 free)
+
+-- a fault, and nothing else was found
+abbrev pub faulty : Fault → Found
+faulty f = record { fault = f; length = 0; lacks = 0; free = 0 }
+
+-- a refusal before or by the check: nothing was found
+abbrev pub refusedBy : ℕ → Looked
+refusedBy number = record { refusal = record { number = number }; found = faulty noFault }

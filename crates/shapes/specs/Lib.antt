@@ -1,0 +1,12 @@
+-- What is true of no engine in particular: sequences of slots and what they amount to, the ends of a list, numbers and their order, the record of slots met, walks, faults, setup, moves and the ledger.
+pub mod Shape
+pub mod Ends
+pub mod Changes
+pub mod Numbers
+pub mod Tests
+pub mod Met
+pub mod Walk
+pub mod Faults
+pub mod Setup
+pub mod Moves
+pub mod Ledger

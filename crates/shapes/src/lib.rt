@@ -1,0 +1,91 @@
+// What is true of no engine in particular: the records in which a step, a walk and the check answer. It has no functions.
+use books::Entry;
+use books::Free;
+use books::Refusal;
+
+// The end of a list at which a step works.
+pub enum End {
+    Front,
+    Back,
+}
+
+// A slot with the idle chain that is left, or none.
+pub enum Taken {
+    Slot(u16, Free),
+    Nothing,
+}
+
+// Whether the slot was released, and the idle chain then.
+pub struct Released {
+    pub done: bool,
+    pub free: Free,
+}
+
+// Whether the value was pushed, and the list and the idle chain then.
+pub struct PushStep {
+    pub done: bool,
+    pub entry: Entry,
+    pub free: Free,
+}
+
+// Whether a value was popped, which, and the list and the idle chain then.
+pub struct PopStep {
+    pub done: bool,
+    pub value: u64,
+    pub entry: Entry,
+    pub free: Free,
+}
+
+// Whether all that was asked for was popped, and the list and the idle chain then.
+pub struct ClearStep {
+    pub done: bool,
+    pub entry: Entry,
+    pub free: Free,
+}
+
+// Whether the walk along a list came to its end at the list's tail, and how many slots it passed.
+pub struct LiveWalk {
+    pub ok: bool,
+    pub length: usize,
+}
+
+// Whether the walk along the idle chain came to the end, how many slots it passed, and the lowest of them that is not wiped, or 0.
+pub struct IdleWalk {
+    pub ok: bool,
+    pub length: usize,
+    pub unwiped: u16,
+}
+
+// The first rule that is broken, with a list and a place, 0 where none applies. Rule 0 is no fault. No call hands it out yet.
+// 9 is L, shares and limits; 10 slot 0; 11 a live chain; 12 the idle chain; 13 a slot in no chain; 14 a free slot that is not wiped; 15 limits and shares.
+#[repr(C)]
+pub struct Fault {
+    pub rule: u16,
+    pub list: u16,
+    pub place: usize,
+}
+
+// What the walks along the lists so far have gathered: the fault, if there was one; how many slots are live; what the lists lack of
+// their shares; the lowest list over its limit, or L; and the length of the list that is asked for.
+pub struct Gathered {
+    pub fault: Fault,
+    pub live: usize,
+    pub lacks: usize,
+    pub over: u16,
+    pub length: usize,
+}
+
+// What the check finds: the fault, if there is one, and else the length of the list that is asked for, what the lists lack of their
+// shares, and how many slots are free.
+pub struct Found {
+    pub fault: Fault,
+    pub length: usize,
+    pub lacks: usize,
+    pub free: usize,
+}
+
+// A number, and what the check found: nothing where the number is not 0. `look` gives 1, 3 or 0; a caller may refuse by more.
+pub struct Looked {
+    pub refusal: Refusal,
+    pub found: Found,
+}

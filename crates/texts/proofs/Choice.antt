@@ -1,0 +1,19 @@
+-- Which arm of the choice a number takes, for the proof of the code that writes a text.
+use mathlib.Core.Path.{_≡_, sym, subst}
+use mathlib.Core.List.{List}
+use Prim.Native.Nat.{ℕ, suc, _≤_, _<_}
+use native.Mathlib.Omega.{arith}
+use Rattle.wording.specs.Digits.{Written}
+use Rattle.wording.specs.Texts.{unknown, textOf}
+use Rattle.wording.proofs.Texts.{above-known}
+
+-- the bytes that the arm for k writes are k's text
+pub chosen : (k : ℕ) {n : ℕ} {before : List ℕ} {at r : ℕ} {after : List ℕ} → n ≡ k → Written (textOf k) before at r after → Written (textOf n) before at r after
+chosen k {n} {before} {at} {r} {after} e W = subst (λ m. Written (textOf m) before at r after) (sym e) W
+
+-- a number that is at least k, and is not k, is past it
+pub past : {k n : ℕ} → k ≤ n → (n ≡ k → ⊥) → suc k ≤ n
+past h d = omega arith
+
+pub by-default : {n : ℕ} {before : List ℕ} {at r : ℕ} {after : List ℕ} → 8 < n → Written unknown before at r after → Written (textOf n) before at r after
+by-default {n} {before} {at} {r} {after} h W = subst (λ t. Written t before at r after) (sym (above-known n h)) W

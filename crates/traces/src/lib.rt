@@ -1,1 +1,0 @@
-// What is said of sequences of calls and of chosen pools, no code. The crate is its specs/ and proofs/.

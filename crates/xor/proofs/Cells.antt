@@ -1,0 +1,75 @@
+-- What a done push and a done pop leave in every cell of the XOR list: 01's links, written out.
+use mathlib.Core.Path.{_≡_, sym, subst, _∙_}
+use mathlib.Core.Bool.{true}
+use mathlib.Core.List.{List, _∷_}
+use Prim.Native.Nat.{ℕ}
+use Rattle.books.specs.declared.Entry.{Entry}
+use Rattle.books.specs.Book.{entryAt, AnyBook}
+use Rattle.books.specs.Outcome.{Outcome, outcome}
+use Rattle.shapes.specs.declared.End.{End}
+use Rattle.shapes.specs.declared.PushStep.{PushStep}
+use Rattle.shapes.specs.declared.PopStep.{PopStep}
+use Rattle.shapes.specs.Shape.{Shape, chainAt}
+use Rattle.shapes.proofs.Numbers.{decided-ind}
+use Rattle.engines.specs.Sound.{SoundBook, Held}
+use Rattle.engines.specs.Calls.{Called, pushTests, popTests, pushCall, popCall}
+use Rattle.engines.specs.Done.{Pushes, Pops}
+use Rattle.engines.proofs.Steps.{book-held, entry-set}
+use Rattle.engines.proofs.When.{push-number, pop-number}
+use Rattle.engines.proofs.Outcomes.{push-done, pop-done}
+use Rattle.xor.specs.Engine.{xor}
+use Rattle.xor.specs.Steps.{pushOf, popOf}
+use Rattle.xor.specs.StepDone.{PushDone, PopDone}
+use Rattle.xor.proofs.Steps.{push-step-done, pop-step-done}
+use Rattle.xor.proofs.Lawful.{xor-lawful}
+use lib.ListN.{set}
+use Rattle.shapes.specs.Ends.{joined}
+
+module _ (links values : List ℕ) (b : AnyBook) (l : ℕ) (end : End) where
+  abbrev e : Entry
+  e = entryAt (b .entries) l
+
+  -- a done push as a step on list l: its entry and the free record afterwards, and every cell
+  abbrev pushLeft : Called xor → Outcome PushStep
+  pushLeft r = outcome (record { done = true; entry = entryAt (r .book .entries) l; free = r .book .free }) (r .links) (r .values)
+
+  pub push-cells : (value : ℕ) → pushCall xor links values b l end value .number ≡ 0 → PushDone end links values e (b .free) value (pushLeft (pushCall xor links values b l end value))
+  unfolding pushCall
+  push-cells value =
+      decided-ind _ _ (λ (r : Called xor). r .number ≡ 0 → PushDone end links values e (b .free) value (pushLeft r)) (pushTests xor links values b l)
+      (λ k z. absurd (k z))
+      (λ k z. let (s, S, P) = push-done xor-lawful links values b l end value (push-number xor links values b l end value ∙ k) in go s S P)
+    where
+      r : Outcome PushStep
+      r = pushOf end links values e (b .free) value
+
+      go : (s : Shape) → SoundBook xor links values b s → Pushes xor links values b end l value s (pushCall xor links values b l end value)
+          → PushDone end links values e (b .free) value (outcome (record { done = true; entry = entryAt (set (b .entries) l (r .answer .entry)) l; free = r .answer .free }) (r .links) (r .values))
+      go s S P =
+          let H : Held xor links values e (b .free) (chainAt s l) (P .slot ∷ P .rest) = subst (λ (fs : List ℕ). Held xor links values e (b .free) (chainAt s l) fs) (P .first) (book-held S l (P .listed)) in
+          let J = xor-lawful .push end links values e (b .free) (P .slot) value (chainAt s l) (P .rest) H in
+          subst (PushDone end links values e (b .free) value)
+          (λ i. outcome (record { done = J .done i; entry = sym (entry-set S l (P .listed) (r .answer .entry)) i; free = r .answer .free }) (r .links) (r .values))
+          (push-step-done end links values e (b .free) value (J .done))
+
+  abbrev popLeft : Called xor → Outcome PopStep
+  popLeft r = outcome (record { done = true; value = r .value; entry = entryAt (r .book .entries) l; free = r .book .free }) (r .links) (r .values)
+
+  pub pop-cells : popCall xor links values b l end .number ≡ 0 → PopDone end links values e (b .free) (popLeft (popCall xor links values b l end))
+  unfolding popCall
+  pop-cells =
+      decided-ind _ _ (λ (r : Called xor). r .number ≡ 0 → PopDone end links values e (b .free) (popLeft r)) (popTests xor links values b l)
+      (λ k z. absurd (k z))
+      (λ k z. let (s, S, P) = pop-done xor-lawful links values b l end (pop-number xor links values b l end ∙ k) in go s S P)
+    where
+      r : Outcome PopStep
+      r = popOf end links values e (b .free)
+
+      go : (s : Shape) → SoundBook xor links values b s → Pops xor links values b end l s (popCall xor links values b l end)
+          → PopDone end links values e (b .free) (outcome (record { done = true; value = r .answer .value; entry = entryAt (set (b .entries) l (r .answer .entry)) l; free = r .answer .free }) (r .links) (r .values))
+      go s S P =
+          let H : Held xor links values e (b .free) (joined end (P .slot) (P .rest)) (s .idle) = subst (λ (xs : List ℕ). Held xor links values e (b .free) xs (s .idle)) (P .last) (book-held S l (P .listed)) in
+          let G = xor-lawful .pop end links values e (b .free) (P .slot) (P .rest) (s .idle) H in
+          subst (PopDone end links values e (b .free))
+          (λ i. outcome (record { done = G .done i; value = r .answer .value; entry = sym (entry-set S l (P .listed) (r .answer .entry)) i; free = r .answer .free }) (r .links) (r .values))
+          (pop-step-done end links values e (b .free) (G .done))

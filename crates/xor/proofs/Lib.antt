@@ -1,0 +1,20 @@
+-- Laws of the XOR list.
+pub mod Slot
+pub mod Slots
+pub mod Beside
+pub mod Ways
+pub mod Steps
+pub mod Front
+pub mod Ends
+pub mod Pools
+pub mod Fresh
+pub mod Lawful
+pub mod Page
+pub mod Plain
+pub mod OneResult
+pub mod Cells
+pub mod Edges
+pub mod Tried
+pub mod Traces
+pub mod Named
+pub mod Clearing

@@ -1,0 +1,45 @@
+-- Walks, a read and an emptying of the XOR list, computed: a walk passes a chain whole and stops where it must, and document 01's first pools give 01's cells.
+use mathlib.Core.Path.{_≡_, refl}
+use mathlib.Core.Bool.{true, false}
+use mathlib.Core.List.{List, [], _∷_}
+use Prim.Native.Nat.{ℕ}
+use Rattle.shapes.specs.declared.End.the-variants.{Front, Back}
+use Rattle.shapes.specs.Ends.{nearOf, withNear}
+use Rattle.shapes.specs.Met.{isMetOf, markOf, unmet}
+use Rattle.shapes.specs.Walk.{walkOn, walkable}
+use Rattle.engines.specs.Check.{idlePath}
+use Rattle.engines.specs.Reads.{isSlot, valuesAlong, countRead, bufferAfter, clearOn}
+use Rattle.xor.specs.Slot.{inPool}
+use Rattle.xor.specs.Slots.{releaseOf}
+use Rattle.xor.specs.Steps.{isBeside, popOf}
+use Rattle.xor.specs.Engine.{xor}
+use Rattle.xor.proofs.Pools.{six, list, idle}
+
+abbrev four : ℕ → ℕ → ℕ → ℕ → List ℕ
+four a b c d = a ∷ b ∷ c ∷ d ∷ []
+
+-- 1, 3, 2 and the end; then 2 leads back to 1; then 3 was met before; then 3 leads to 4, which the four slots have not;
+-- then a record in which the null slot is met, one with a place too many, and a link without a value, which are refused
+pub walks-tried : (idlePath xor (four 0 3 0 2) (four 0 0 0 0) (four 0 0 0 0) (record { head = 1 }) ≡ record { ok = true; slots = 1 ∷ 3 ∷ 2 ∷ [] })
+    × (idlePath xor (four 0 3 1 2) (four 0 0 0 0) (four 0 0 0 0) (record { head = 1 }) ≡ record { ok = false; slots = 1 ∷ 3 ∷ 2 ∷ [] })
+    × (idlePath xor (four 0 3 0 2) (four 0 0 0 0) (four 0 0 0 1) (record { head = 1 }) ≡ record { ok = false; slots = 1 ∷ [] })
+    × (idlePath xor (four 0 3 0 4) (four 0 0 0 0) (four 0 0 0 0) (record { head = 1 }) ≡ record { ok = false; slots = 1 ∷ 3 ∷ [] })
+    × (idlePath xor (four 0 3 0 2) (four 0 0 0 0) (four 1 0 0 0) (record { head = 1 }) ≡ record { ok = false; slots = [] })
+    × (idlePath xor (four 0 3 0 2) (four 0 0 0 0) (0 ∷ four 0 0 0 0) (record { head = 1 }) ≡ record { ok = false; slots = [] })
+    × (idlePath xor (four 0 3 0 2) (0 ∷ []) (four 0 0 0 0) (record { head = 1 }) ≡ record { ok = false; slots = [] })
+unfolding idlePath walkable walkOn isMetOf markOf unmet
+walks-tried = (refl, refl, refl, refl, refl, refl, refl)
+
+-- P3 read into five places from the second on: forward, and from the tail backward
+pub p3-read : (countRead xor Front (six 0 1 5 1 2 0) (six 0 20 30 10 40 0) 3 (7 ∷ 7 ∷ 7 ∷ 7 ∷ 7 ∷ []) 1 ≡ 4)
+    × (bufferAfter xor Front (six 0 1 5 1 2 0) (six 0 20 30 10 40 0) 3 (7 ∷ 7 ∷ 7 ∷ 7 ∷ 7 ∷ []) 1 ≡ 7 ∷ 10 ∷ 20 ∷ 30 ∷ 40 ∷ [])
+    × (bufferAfter xor Back (six 0 1 5 1 2 0) (six 0 20 30 10 40 0) 4 (7 ∷ 7 ∷ 7 ∷ 7 ∷ 7 ∷ []) 1 ≡ 7 ∷ 40 ∷ 30 ∷ 20 ∷ 10 ∷ [])
+unfolding valuesAlong isSlot
+p3-read = (refl, refl, refl)
+
+-- P2 emptied: every slot is idle, the last of the list first, and every value is wiped
+pub p2-cleared : (clearOn xor 3 (six 0 1 1 1 5 0) (six 0 20 30 10 0 0) (list 3 2) (idle 4) .free .head ≡ 2)
+    × (clearOn xor 3 (six 0 1 1 1 5 0) (six 0 20 30 10 0 0) (list 3 2) (idle 4) .links ≡ six 0 3 1 4 5 0)
+    × (clearOn xor 3 (six 0 1 1 1 5 0) (six 0 20 30 10 0 0) (list 3 2) (idle 4) .values ≡ six 0 0 0 0 0 0)
+unfolding clearOn popOf isBeside nearOf withNear releaseOf inPool
+p2-cleared = (refl, refl, refl)

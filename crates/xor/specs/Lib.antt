@@ -1,0 +1,12 @@
+-- What a reader of the XOR list believes: its slots and its steps on any cells, and what the laws say of them.
+pub mod Slot
+pub mod Slots
+pub mod SlotDone
+pub mod Steps
+pub mod StepDone
+pub mod Engine
+pub mod Sound
+pub mod Ten
+pub mod ClearDone
+pub mod Moves
+pub mod Edges

@@ -1,0 +1,67 @@
+-- The ten calls by name as moves of a pool with its book of eight, and the traces that they make: demand 3's premise, said of what the promises cite.
+use mathlib.Core.Path.{_≡_}
+use mathlib.Core.Bool.{cond}
+use mathlib.Core.List.{List}
+use Prim.Native.Nat.{ℕ}
+use lib.Dec.{eqb}
+use Rattle.books.specs.declared.Book.{Book}
+use Rattle.books.specs.declared.Answer.{Answer}
+use Rattle.books.specs.declared.Popped.{Popped}
+use Rattle.books.specs.Book.{eight}
+use Rattle.books.specs.Outcome.{Outcome}
+use Rattle.shapes.specs.Moves.{Move, check, askLength, pushBack, pushFront, popBack, popFront, readForward, readBackward, clear}
+use Rattle.shapes.specs.Ledger.{Ledger, nothingNoted, notedDone}
+use Rattle.engines.specs.Moves.{State}
+use Rattle.xor.specs.Engine.{xor}
+use Rattle.xor.specs.Ten.{setupOf, checkOf, lengthOf, pushBackOf, pushFrontOf, popBackOf, popFrontOf, readForwardOf, readBackwardOf, clearOf}
+
+-- the two slices and the newest book
+pub record Pool : Type 0 where
+  pub links : List ℕ
+  pub values : List ℕ
+  pub book : Book
+
+-- the same as the laws over any engine have it
+abbrev pub stateOf : Pool → State xor
+stateOf p = record { links = p .links; values = p .values; book = eight (p .book) }
+
+-- what a call leaves, and what a pop leaves
+abbrev pub poolLeft : Outcome Answer → Pool
+poolLeft r = record { links = r .links; values = r .values; book = r .answer .book }
+
+abbrev pub poolPopped : Outcome Popped → Pool
+poolPopped r = record { links = r .links; values = r .values; book = r .answer .book }
+
+-- the number that the call gives
+abbrev pub numberGiven : Pool → Move → ℕ
+numberGiven p check = checkOf (p .links) (p .values) (p .book) .number
+numberGiven p (askLength l) = lengthOf (p .links) (p .values) (p .book) l .refusal .number
+numberGiven p (pushBack l value) = pushBackOf (p .links) (p .values) (p .book) l value .answer .refusal .number
+numberGiven p (pushFront l value) = pushFrontOf (p .links) (p .values) (p .book) l value .answer .refusal .number
+numberGiven p (popBack l) = popBackOf (p .links) (p .values) (p .book) l .answer .given .refusal .number
+numberGiven p (popFront l) = popFrontOf (p .links) (p .values) (p .book) l .answer .given .refusal .number
+numberGiven p (readForward l buffer at) = readForwardOf (p .links) (p .values) (p .book) l buffer at .answer .refusal .number
+numberGiven p (readBackward l buffer at) = readBackwardOf (p .links) (p .values) (p .book) l buffer at .answer .refusal .number
+numberGiven p (clear l) = clearOf (p .links) (p .values) (p .book) l .answer .refusal .number
+
+-- what the call leaves. Check, length and the reads are lent the slices to read alone, and return no book
+abbrev pub poolAfter : Pool → Move → Pool
+poolAfter p check = p
+poolAfter p (askLength l) = p
+poolAfter p (pushBack l value) = poolLeft (pushBackOf (p .links) (p .values) (p .book) l value)
+poolAfter p (pushFront l value) = poolLeft (pushFrontOf (p .links) (p .values) (p .book) l value)
+poolAfter p (popBack l) = poolPopped (popBackOf (p .links) (p .values) (p .book) l)
+poolAfter p (popFront l) = poolPopped (popFrontOf (p .links) (p .values) (p .book) l)
+poolAfter p (readForward l buffer at) = p
+poolAfter p (readBackward l buffer at) = p
+poolAfter p (clear l) = poolLeft (clearOf (p .links) (p .values) (p .book) l)
+
+-- a refused call adds nothing to the ledger
+abbrev pub notedBy : Pool → Move → Ledger → Ledger
+notedBy p m ledger = cond (eqb (numberGiven p m) 0) (notedDone m ledger) ledger
+
+-- "Take an accepted setup, let only the other nine calls touch that pool, each with its slices and the newest book": any of them, one after the other, done or refused
+pub data PoolTrace (lists : ℕ) (shares limits : List ℕ) : Pool → Ledger → Type 0 where
+  begun : (links values : List ℕ) → setupOf links values lists shares limits .answer .refusal .number ≡ 0
+      → PoolTrace lists shares limits (poolLeft (setupOf links values lists shares limits)) nothingNoted
+  called : {p : Pool} {ledger : Ledger} → PoolTrace lists shares limits p ledger → (m : Move) → PoolTrace lists shares limits (poolAfter p m) (notedBy p m ledger)
