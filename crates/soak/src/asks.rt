@@ -1,237 +1,118 @@
-// What is asked for: a call with its arguments, drawn from a number. Many arguments are bad on purpose.
-use crate::cells::at;
-use crate::cells::minus;
-use crate::cells::pick;
-use crate::cells::plus;
-use crate::model;
-use crate::places::SIZE;
-use crate::places::STEP;
-use crate::rings;
+// What is asked for: a call with its arguments, by dice. Many arguments are bad on purpose.
+use crate::desk::*;
 
-// A call. The kinds are the rows of document 01's table, in its order: setup, check, length, push back, push front, pop back, pop front,
-// read forward, read backward, clear. `links` and `values` are how many cells of each are lent, `room` how many places of the buffer.
-pub struct Ask {
-    pub kind: u64,
-    pub list: u64,
-    pub value: u64,
-    pub links: u64,
-    pub values: u64,
-    pub room: u64,
-    pub at: u64,
-    pub lists: u64,
-}
+// The calls while a pool is to fill, and while it is to empty.
+const KINDS: [u64; 32] = [
+    0,
+    1,
+    2,
+    3,
+    3,
+    3,
+    3,
+    4,
+    4,
+    4,
+    4,
+    5,
+    6,
+    7,
+    8,
+    9,
+    0,
+    1,
+    2,
+    3,
+    4,
+    5,
+    5,
+    5,
+    5,
+    6,
+    6,
+    6,
+    6,
+    7,
+    8,
+    9,
+];
 
-// Where a read writes, in a buffer of how many places.
-struct Where {
-    room: u64,
-    at: u64,
-}
-
-fn push_or_pop(draw: u64, pushes: bool) -> u64 {
-    if pushes {
-        return 3 + draw % 2;
+// Which call. A setup or a clear of a large pool is seldom, so that it may fill.
+fn kind(seed: u64, step: u64, size: u64) -> u64 {
+    let empties = step / (size % 8192 + 16) % 2;
+    let k = (empties * 16 + dice(seed, 1, 16) % 16) as usize;
+    let kind = KINDS[k];
+    match kind {
+        0 | 9 => match dice(seed, 2, plus(size / 64, 1)) {
+            0 => kind,
+            _ => 3,
+        },
+        _ => kind,
     }
-    5 + draw % 2
-}
-
-// Which call, of a draw below 64. While the pool is to fill there are more pushes than pops, and else more pops.
-fn kind_of(draw: u64, fills: bool) -> u64 {
-    if draw == 0 {
-        return 0;
-    }
-    if draw < 3 {
-        return 1;
-    }
-    if draw < 5 {
-        return 2;
-    }
-    if draw < 9 {
-        return 7;
-    }
-    if draw < 13 {
-        return 8;
-    }
-    if draw == 13 {
-        return 9;
-    }
-    if draw < 26 {
-        return push_or_pop(draw, !fills);
-    }
-    push_or_pop(draw, fills)
 }
 
 // A list that there is, or now and then one that there is not.
-fn list_of(draw: u64, lists: u64) -> u64 {
-    if draw % 16 == 0 {
-        return lists;
+fn list(seed: u64, lists: u64) -> u64 {
+    let die = dice(seed, 3, 16);
+    match die {
+        0 => lists,
+        1 => plus(lists, dice(seed, 4, 60000)),
+        _ => dice(seed, 4, lists),
     }
-    if draw % 16 == 1 {
-        return plus(lists, pick(draw >> 4, 60000));
-    }
-    pick(draw >> 4, lists)
 }
 
-// How many links are lent: the pool's size, or now and then another number.
-fn links_of(draw: u64, size: u64) -> u64 {
-    match draw {
-        0 => minus(size, 1),
-        1 => 1,
-        2 => 4097,
-        3 => 0,
-        4 => 4097,
-        5 => plus(size, 1),
-        6 => plus(size, 1),
-        7 => minus(size, 1),
+// How many cells are lent: all of the pool's, or now and then one more or one less. A damaged pool is lent as it is.
+fn length(seed: u64, k: u64, state: u64, size: u64) -> u64 {
+    let die = plus(state, dice(seed, 5, 8));
+    match die {
+        0 => minus(plus(size, dice(seed, k, 3)), 1),
         _ => size,
     }
 }
 
-// The same for the values.
-fn values_of(draw: u64, size: u64) -> u64 {
-    match draw {
-        1 => 1,
-        2 => 4097,
-        3 => 0,
-        4 => 4096,
-        6 => plus(size, 1),
-        7 => minus(size, 1),
-        8 => minus(size, 1),
-        _ => size,
+// Shares and limits that keep the rules.
+fn ask_entries(desk: &mut Desk, seed: u64, lists: u64, most: u64) {
+    let mut left = most;
+    let mut list: u64 = 0;
+    while list < lists {
+        let share = dice(seed, list ^ 16, plus(left / 2, 1));
+        let more = dice(seed, list ^ 24, plus(minus(most, share), 1));
+        set_four(desk, ASKED, list << 2, 0, 0, share, plus(share, more));
+        left = minus(left, share);
+        list += 1;
     }
 }
 
-// A setup is not asked for a pool that is one slot larger or smaller.
-fn sizes_of(draw: u64, kind: u64) -> u64 {
-    if kind == 0 {
-        if draw == 6 {
-            return 9;
-        }
-        if draw == 7 {
-            return 9;
-        }
-    }
-    draw
-}
-
-// One less, or 0.
-fn less_one(count: u64) -> u64 {
-    if count == 0 {
-        return 0;
-    }
-    count - 1
-}
-
-// Just room enough and more than that, a place too few, at the buffer's end and past it, and far past it.
-fn where_of(draw: u64, count: u64) -> Where {
-    match draw {
-        0 => Where {
-            room: less_one(count),
-            at: 0,
-        },
-        1 => Where {
-            room: count,
-            at: plus(count, 1),
-        },
-        2 => Where {
-            room: count,
-            at: count,
-        },
-        3 => Where {
-            room: plus(count, 1),
-            at: 2,
-        },
-        4 => Where {
-            room: plus(count, 5),
-            at: 18446744073709551615,
-        },
-        5 | 6 | 7 => Where {
-            room: plus(count, 1),
-            at: 1,
-        },
-        8 | 9 | 10 => Where { room: count, at: 0 },
-        _ => Where {
-            room: plus(count, 5),
-            at: 3,
-        },
-    }
-}
-
-// Mostly a number that is not 0.
-fn value_of(word: u64) -> u64 {
-    if word % 16 == 0 {
-        return 0;
-    }
-    word
-}
-
-// Does the pool fill now, or empty?
-fn fills(desk: &[u64]) -> bool {
-    pick(at(desk, STEP) / 16, 2) == 0
-}
-
-// A setup or a clear of a large pool is seldom, so that it may fill.
-fn seldom(kind: u64, draw: u64, size: u64) -> u64 {
-    if kind % 9 == 0 {
-        if pick(draw, plus(1, size / 64)) != 0 {
-            return 3;
+// What a setup asks for, and how many slots its lists have. In half of the cases one number is changed, but not at the first setup.
+fn ask_setup(desk: &mut Desk, seed: u64, state: u64, size: u64) {
+    let lists = plus(dice(seed, 6, 8), 1);
+    fill(desk, ASKED, 0, NUMBER);
+    set(desk, ASKED, LISTS, lists);
+    ask_entries(desk, seed, lists, minus(size, 1));
+    let k = dice(seed, 7, 34);
+    if k < 17 {
+        if state < 2 {
+            let other = dice(seed, 8, plus(size, 2));
+            set(desk, ASKED, ((k >> 1) << 2) | SHARE | (k & 1), other);
         }
     }
-    kind
 }
 
-// The call that a number draws. What a setup asks for is drawn by itself, and `lists` is a part of it.
-pub(crate) fn drawn(deque: &[u64], desk: &[u64], word: u64, value: u64, lists: u64) -> Ask {
-    let size = at(desk, SIZE);
-    let kind = seldom(kind_of(word % 64, fills(desk)), word >> 48, size);
-    let list = list_of(word >> 6, model::lists(deque));
-    let sizes = sizes_of((word >> 24) % 64, kind);
-    let place = where_of((word >> 32) % 16, rings::count(deque, list));
-    Ask {
-        kind,
-        list,
-        value: value_of(value),
-        links: links_of(sizes, size),
-        values: values_of(sizes, size),
-        room: place.room,
-        at: place.at,
-        lists,
-    }
-}
-
-// A call of a kind with no bad argument, but for a read's place.
-pub(crate) fn good(
-    deque: &[u64],
-    desk: &[u64],
-    kind: u64,
-    list: u64,
-    word: u64,
-    lists: u64,
-) -> Ask {
-    let size = at(desk, SIZE);
-    let place = where_of(word % 16, rings::count(deque, list));
-    Ask {
-        kind,
-        list,
-        value: 0,
-        links: size,
-        values: size,
-        room: place.room,
-        at: place.at,
-        lists,
-    }
-}
-
-// A call at an end of a list, for a rush of pushes or of pops: `kind` is 3 or 5.
-pub(crate) fn in_a_rush(deque: &[u64], desk: &[u64], kind: u64, word: u64) -> Ask {
-    let size = at(desk, SIZE);
-    Ask {
-        kind: plus(kind, word % 2),
-        list: pick(word >> 8, model::lists(deque)),
-        value: word,
-        links: size,
-        values: size,
-        room: 0,
-        at: 0,
-        lists: 0,
-    }
+// The call. A value is 0 now and then; a read has room enough, or too little, or begins past the buffer's end.
+pub(crate) fn ask(desk: &mut Desk, seed: u64, state: u64, size: u64) {
+    let list = list(seed, get(desk, BOOK, LISTS));
+    let kind = match state {
+        2 => 0,
+        _ => kind(seed, get(desk, NOTES, STEP), size),
+    };
+    let value = dice(seed, 9, dice(seed, 10, 8) << 61);
+    let room = plus(get(desk, COUNTS, list), dice(seed, 11, 6));
+    let at = minus(dice(seed, 12, 8), 1);
+    let links = length(seed, 13, state, size);
+    let values = length(seed, 14, state, size);
+    set_four(desk, NOTES, KIND, kind, list, value, room);
+    set_four(desk, NOTES, AT, at, links, values, plus(size, 40));
+    ask_setup(desk, seed, state, size);
+    set(desk, FRESH, FREE, minus(links, 1));
+    fill(desk, BUFFER, 7000000, plus(size, 40));
 }

@@ -1,204 +1,239 @@
-// A call is made: the parts of the arrays that it asks for are lent, and its answer is brought into one form.
-use crate::asks::Ask;
-use crate::cells::at;
-use crate::cells::narrow;
-use crate::cells::plus;
-use crate::cells::wide;
-use crate::places::LIMITS;
-use crate::places::SHARES;
+// A call is made: what it asks for is lent, and what it leaves and answers is put on the desk.
+use crate::desk::*;
+use books::Answer;
 use books::Book;
+use books::Entry;
+use books::Free;
+use books::Popped;
+use books::Refusal;
+use books::Value;
+ghost use Prim.Native.Nat.{_≤_};
 
-// The number; the value popped, the length or the count read, or else 0; and the book, as it went in where a call returns none.
-pub struct Got {
-    pub number: u64,
-    pub value: u64,
-    pub book: Book,
+fn wide(x: u16) -> u64 {
+    x as u64
 }
 
-fn answered(number: u16, value: u64, book: Book) -> Got {
-    Got {
-        number: wide(number),
-        value,
+// A number as 16 bits, or 0 where it does not fit.
+fn narrow(x: u64) -> u16 {
+    if x < 65536 {
+        return x as u16;
+    }
+    0
+}
+
+// How many cells are lent.
+fn lent(desk: &Desk, what: u64) -> usize
+    ensures { λ r. ⌜ r ≤ 4200 ⌝ }
+{
+    let many = get(desk, NOTES, what);
+    if many <= 4200 {
+        return many as usize;
+    }
+    0
+}
+
+// The cells of a row, as many as a call may reach and some more.
+fn laid_links(desk: &Desk) -> [u16; 4200] {
+    let span = lent(desk, SPAN);
+    let mut links = [0u16; 4200];
+    let mut k: usize = 0;
+    while k < span {
+        links[k] = word(desk, LINKS, long(k));
+        k += 1;
+    }
+    links
+}
+
+fn laid(desk: &Desk, row: u64) -> [u64; 4200] {
+    let span = lent(desk, SPAN);
+    let mut cells = [0u64; 4200];
+    let mut k: usize = 0;
+    while k < span {
+        cells[k] = get(desk, row, long(k));
+        k += 1;
+    }
+    cells
+}
+
+fn note_links(desk: &mut Desk, links: &[u16; 4200]) {
+    let span = lent(desk, SPAN);
+    let mut k: usize = 0;
+    while k < span {
+        set(desk, GOT_LINKS, long(k), wide(links[k]));
+        k += 1;
+    }
+}
+
+fn note_cells(desk: &mut Desk, row: u64, cells: &[u64; 4200]) {
+    let span = lent(desk, SPAN);
+    let mut k: usize = 0;
+    while k < span {
+        set(desk, row, long(k), cells[k]);
+        k += 1;
+    }
+}
+
+fn word(desk: &Desk, row: u64, place: u64) -> u16 {
+    narrow(get(desk, row, place))
+}
+
+fn entry(desk: &Desk, from: u64) -> Entry {
+    Entry {
+        head: word(desk, BOOK, from),
+        tail: word(desk, BOOK, from | 1),
+        share: word(desk, BOOK, from | SHARE),
+        limit: word(desk, BOOK, from | LIMIT),
+    }
+}
+
+fn book(desk: &Desk) -> Book {
+    Book {
+        lists: word(desk, BOOK, LISTS),
+        entries: [
+            entry(desk, 0),
+            entry(desk, 4),
+            entry(desk, 8),
+            entry(desk, 12),
+            entry(desk, 16),
+            entry(desk, 20),
+            entry(desk, 24),
+            entry(desk, 28),
+        ],
+        free: Free {
+            head: word(desk, BOOK, FREE_HEAD),
+        },
+    }
+}
+
+// What a call answers: the number, the value popped, the length or the count read, or else 0, and the book.
+fn answer(refusal: Refusal, value: u64, book: Book) -> Popped {
+    Popped {
+        given: Value { refusal, value },
         book,
     }
 }
 
-fn small(desk: &[u64], from: u64, k: u64) -> u16 {
-    narrow(at(desk, plus(from, k)))
+fn answer_of(made: Answer) -> Popped {
+    let refusal = made.refusal;
+    let book = made.book;
+    answer(refusal, 0, book)
 }
 
-fn eight(desk: &[u64], from: u64) -> [u16; 8] {
+// The answer is put on the desk.
+fn note_answer(desk: &mut Desk, answer: Popped) {
+    let given = answer.given;
+    let refusal = given.refusal;
+    let book = answer.book;
+    let entries = book.entries;
+    let free = book.free;
+    let mut k: usize = 0;
+    while k < 8 {
+        let one = entries[k];
+        set_four(
+            desk,
+            GOT,
+            long(k) << 2,
+            wide(one.head),
+            wide(one.tail),
+            wide(one.share),
+            wide(one.limit),
+        );
+        k += 1;
+    }
+    set_four(
+        desk,
+        GOT,
+        FREE_HEAD,
+        wide(free.head),
+        0,
+        wide(book.lists),
+        0,
+    );
+    set_four(desk, GOT, NUMBER, wide(refusal.number), given.value, 0, 0);
+}
+
+fn eight(desk: &Desk, field: u64) -> [u16; 8] {
     [
-        small(desk, from, 0),
-        small(desk, from, 1),
-        small(desk, from, 2),
-        small(desk, from, 3),
-        small(desk, from, 4),
-        small(desk, from, 5),
-        small(desk, from, 6),
-        small(desk, from, 7),
+        word(desk, ASKED, field),
+        word(desk, ASKED, field | 4),
+        word(desk, ASKED, field | 8),
+        word(desk, ASKED, field | 12),
+        word(desk, ASKED, field | 16),
+        word(desk, ASKED, field | 20),
+        word(desk, ASKED, field | 24),
+        word(desk, ASKED, field | 28),
     ]
 }
 
-fn setup(links: &mut [u16], values: &mut [u64], desk: &[u64], lists: u64) -> Got {
-    let shares = eight(desk, SHARES);
-    let limits = eight(desk, LIMITS);
-    let answer = shares::setup::setup(links, values, narrow(lists), shares, limits);
-    let refusal = answer.refusal;
-    let book = answer.book;
-    answered(refusal.number, 0, book)
-}
-
-fn check(links: &[u16], values: &[u64], book: Book) -> Got {
-    let refusal = shares::check::check(links, values, book);
-    answered(refusal.number, 0, book)
-}
-
-fn length(links: &[u16], values: &[u64], book: Book, list: u16) -> Got {
-    let answer = shares::reads::length(links, values, book, list);
-    let refusal = answer.refusal;
-    answered(refusal.number, wide(answer.length), book)
-}
-
-fn push_back(links: &mut [u16], values: &mut [u64], book: Book, list: u16, value: u64) -> Got {
-    let answer = shares::ends::push_back(links, values, book, list, value);
-    let refusal = answer.refusal;
-    let after = answer.book;
-    answered(refusal.number, 0, after)
-}
-
-fn push_front(links: &mut [u16], values: &mut [u64], book: Book, list: u16, value: u64) -> Got {
-    let answer = shares::ends::push_front(links, values, book, list, value);
-    let refusal = answer.refusal;
-    let after = answer.book;
-    answered(refusal.number, 0, after)
-}
-
-fn pop_back(links: &mut [u16], values: &mut [u64], book: Book, list: u16) -> Got {
-    let answer = shares::ends::pop_back(links, values, book, list);
-    let given = answer.given;
-    let refusal = given.refusal;
-    let after = answer.book;
-    answered(refusal.number, given.value, after)
-}
-
-fn pop_front(links: &mut [u16], values: &mut [u64], book: Book, list: u16) -> Got {
-    let answer = shares::ends::pop_front(links, values, book, list);
-    let given = answer.given;
-    let refusal = given.refusal;
-    let after = answer.book;
-    answered(refusal.number, given.value, after)
-}
-
-fn clear(links: &mut [u16], values: &mut [u64], book: Book, list: u16) -> Got {
-    let answer = shares::clear::clear(links, values, book, list);
-    let refusal = answer.refusal;
-    let after = answer.book;
-    answered(refusal.number, 0, after)
-}
-
-fn read_forward(
-    links: &[u16],
-    values: &[u64],
-    book: Book,
-    list: u16,
-    buffer: &mut [u64],
-    at: usize,
-) -> Got {
-    let answer = shares::reads::read_forward(links, values, book, list, buffer, at);
-    let refusal = answer.refusal;
-    answered(refusal.number, wide(answer.count), book)
-}
-
-fn read_backward(
-    links: &[u16],
-    values: &[u64],
-    book: Book,
-    list: u16,
-    buffer: &mut [u64],
-    at: usize,
-) -> Got {
-    let answer = shares::reads::read_backward(links, values, book, list, buffer, at);
-    let refusal = answer.refusal;
-    answered(refusal.number, wide(answer.count), book)
-}
-
-// Which of the calls that change the pool.
-fn change(links: &mut [u16], values: &mut [u64], desk: &[u64], book: Book, ask: Ask) -> Got {
-    let list = narrow(ask.list);
-    let kind = ask.kind;
+// The calls that change the pool.
+fn change(links: &mut [u16], values: &mut [u64], desk: &Desk) -> Popped {
+    let kind = get(desk, NOTES, KIND);
+    let list = word(desk, NOTES, LIST);
+    let value = get(desk, NOTES, PUSHED);
+    let before = book(desk);
     match kind {
-        0 => setup(links, values, desk, ask.lists),
-        3 => push_back(links, values, book, list, ask.value),
-        4 => push_front(links, values, book, list, ask.value),
-        5 => pop_back(links, values, book, list),
-        6 => pop_front(links, values, book, list),
-        _ => clear(links, values, book, list),
+        0 => {
+            let lists = word(desk, ASKED, LISTS);
+            let shares = eight(desk, SHARE);
+            let limits = eight(desk, LIMIT);
+            let made = shares::setup::setup(links, values, lists, shares, limits);
+            return answer_of(made);
+        }
+        3 => return answer_of(shares::ends::push_back(links, values, before, list, value)),
+        4 => return answer_of(shares::ends::push_front(links, values, before, list, value)),
+        5 => return shares::ends::pop_back(links, values, before, list),
+        6 => return shares::ends::pop_front(links, values, before, list),
+        _ => return answer_of(shares::clear::clear(links, values, before, list)),
     }
 }
 
-// Which of the others.
-fn look(links: &[u16], values: &[u64], buffer: &mut [u64], book: Book, ask: Ask) -> Got {
-    let list = narrow(ask.list);
-    let kind = ask.kind;
-    let place = ask.at as usize;
+// The others. They return no book: it is as it was.
+fn look(links: &[u16], values: &[u64], buffer: &mut [u64], desk: &Desk) -> Popped {
+    let kind = get(desk, NOTES, KIND);
+    let list = word(desk, NOTES, LIST);
+    let at = get(desk, NOTES, AT) as usize;
+    let before = book(desk);
     match kind {
-        1 => check(links, values, book),
-        2 => length(links, values, book, list),
-        7 => read_forward(links, values, book, list, buffer, place),
-        _ => read_backward(links, values, book, list, buffer, place),
-    }
-}
-
-fn looks(kind: u64) -> bool {
-    match kind {
-        1 | 2 | 7 | 8 => true,
-        _ => false,
-    }
-}
-
-fn lend_change(links: &mut [u16], values: &mut [u64], desk: &[u64], book: Book, ask: Ask) -> Got {
-    let many = ask.links as usize;
-    let more = ask.values as usize;
-    if many <= links.len() {
-        if more <= values.len() {
-            return change(&mut links[0..many], &mut values[0..more], desk, book, ask);
+        1 => return answer(shares::check::check(links, values, before), 0, before),
+        2 => {
+            let found = shares::reads::length(links, values, before, list);
+            return answer(found.refusal, wide(found.length), before);
+        }
+        7 => {
+            let read = shares::reads::read_forward(links, values, before, list, buffer, at);
+            return answer(read.refusal, wide(read.count), before);
+        }
+        _ => {
+            let read = shares::reads::read_backward(links, values, before, list, buffer, at);
+            return answer(read.refusal, wide(read.count), before);
         }
     }
-    answered(99, 0, book)
 }
 
-fn lend_look(links: &[u16], values: &[u64], buffer: &mut [u64], book: Book, ask: Ask) -> Got {
-    let many = ask.links as usize;
-    let more = ask.values as usize;
-    let room = ask.room as usize;
-    if many <= links.len() {
-        if more <= values.len() {
-            if room <= buffer.len() {
-                return look(
-                    &links[0..many],
-                    &values[0..more],
-                    &mut buffer[0..room],
-                    book,
-                    ask,
-                );
-            }
-        }
+fn call(links: &mut [u16], values: &mut [u64], buffer: &mut [u64], desk: &Desk) -> Popped {
+    let kind = get(desk, NOTES, KIND);
+    match kind {
+        1 | 2 | 7 | 8 => return look(links, values, buffer, desk),
+        _ => return change(links, values, desk),
     }
-    answered(99, 0, book)
 }
 
-// The call. Number 99, which no call gives, says that the arrays are too short for what is asked.
-pub(crate) fn lend(
-    links: &mut [u16],
-    values: &mut [u64],
-    buffer: &mut [u64],
-    desk: &[u64],
-    book: Book,
-    ask: Ask,
-) -> Got {
-    if looks(ask.kind) {
-        return lend_look(links, values, buffer, book, ask);
-    }
-    lend_change(links, values, desk, book, ask)
+// The cells are laid out as the desk says that they are, the call is made, and what it leaves and answers is noted.
+pub(crate) fn make(desk: &mut Desk) {
+    let mut links = laid_links(desk);
+    let mut values = laid(desk, VALUES);
+    let mut buffer = laid(desk, BUFFER);
+    let many = lent(desk, LINKS_LENT);
+    let more = lent(desk, VALUES_LENT);
+    let room = lent(desk, ROOM);
+    let answer = call(
+        &mut links[0..many],
+        &mut values[0..more],
+        &mut buffer[0..room],
+        desk,
+    );
+    note_answer(desk, answer);
+    note_links(desk, &links);
+    note_cells(desk, GOT_VALUES, &values);
+    note_cells(desk, GOT_BUFFER, &buffer);
 }

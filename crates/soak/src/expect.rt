@@ -1,50 +1,16 @@
-// Which number a call must give, and what it must do to the deque, in document 01's words.
-use crate::asks::Ask;
-use crate::cells::at;
-use crate::cells::plus;
-use crate::cells::put;
-use crate::model;
-use crate::places::DAMAGED;
-use crate::places::FREE_RING;
-use crate::places::LIMITS;
-use crate::places::SHARES;
-use crate::places::SIZE;
-use crate::plain;
-use crate::rings;
-use crate::words::with_word;
-use books::Book;
-
-// 1: lengths differ, or N under 2 or over 4,096.
-fn sizes_fit(ask: Ask) -> bool {
-    if ask.links != ask.values {
-        return false;
-    }
-    if ask.links < 2 {
-        return false;
-    }
-    ask.links <= 4096
-}
-
-// The book that a setup asks for, with the lists empty.
-fn asked(desk: &[u64], lists: u64) -> Book {
-    let mut book = with_word(Book::zero(), 0, lists);
-    let mut list: u64 = 0;
-    while list < 8 {
-        book = with_word(book, list * 4 + 3, at(desk, plus(SHARES, list)));
-        book = with_word(book, list * 4 + 4, at(desk, plus(LIMITS, list)));
-        list += 1;
-    }
-    book
-}
+// What a call must give and leave, in document 01's words, and whether it did.
+use crate::deque;
+use crate::desk::*;
+use crate::out;
+use crate::sound;
 
 // 6 or 7.
-fn push_number(deque: &[u64], list: u64) -> u64 {
-    let length = rings::count(deque, list);
-    if length == model::limit(deque, list) {
+fn push_number(desk: &Desk, list: u64, many: u64) -> u64 {
+    if many == get(desk, BOOK, (list << 2) | LIMIT) {
         return 6;
     }
-    if model::share(deque, list) <= length {
-        if rings::count(deque, FREE_RING) <= model::lacks(deque) {
+    if get(desk, BOOK, (list << 2) | SHARE) <= many {
+        if get(desk, COUNTS, FREE) <= sound::lacks(desk, BOOK, COUNTS) {
             return 7;
         }
     }
@@ -52,133 +18,108 @@ fn push_number(deque: &[u64], list: u64) -> u64 {
 }
 
 // 5.
-fn pop_number(deque: &[u64], list: u64) -> u64 {
-    if rings::count(deque, list) == 0 {
-        return 5;
+fn pop_number(many: u64) -> u64 {
+    match many {
+        0 => 5,
+        _ => 0,
     }
-    0
 }
 
 // 8.
-fn read_number(deque: &[u64], ask: Ask) -> u64 {
-    if ask.room < ask.at {
-        return 8;
+fn read_number(desk: &Desk, many: u64) -> u64 {
+    let at = get(desk, NOTES, AT);
+    let room = get(desk, NOTES, ROOM);
+    if at <= room {
+        if many <= room - at {
+            return 0;
+        }
     }
-    if ask.room - ask.at < rings::count(deque, ask.list) {
-        return 8;
-    }
-    0
+    8
 }
 
 // 4 to 8, on a sound pool.
-pub(crate) fn list_number(deque: &[u64], ask: Ask) -> u64 {
-    let kind = ask.kind;
-    if kind == 1 {
-        return 0;
-    }
-    if model::lists(deque) <= ask.list {
+fn list_number(desk: &Desk, kind: u64) -> u64 {
+    let list = get(desk, NOTES, LIST);
+    let many = get(desk, COUNTS, list);
+    if get(desk, BOOK, LISTS) <= list {
         return 4;
     }
     match kind {
-        3 | 4 => push_number(deque, ask.list),
-        5 | 6 => pop_number(deque, ask.list),
-        7 | 8 => read_number(deque, ask),
+        3 | 4 => push_number(desk, list, many),
+        5 | 6 => pop_number(many),
+        7 | 8 => read_number(desk, many),
         _ => 0,
     }
 }
 
-// Is what is lent sound? It is lent as the call has it.
-fn lent_sound(links: &[u16], values: &[u64], desk: &mut [u64], book: Book, size: u64) -> bool {
-    let many = size as usize;
-    if many <= links.len() {
-        if many <= values.len() {
-            return plain::is_sound(&links[0..many], &values[0..many], desk, book);
-        }
-    }
-    false
-}
-
-// The number that the call must give. The tests run in the order 1 to 8.
-pub(crate) fn number(
-    links: &[u16],
-    values: &[u64],
-    deque: &[u64],
-    desk: &mut [u64],
-    book: Book,
-    ask: Ask,
-) -> u64 {
-    if !sizes_fit(ask) {
-        return 1;
-    }
-    if ask.kind == 0 {
-        if crate::rules::kept(asked(desk, ask.lists), ask.links) {
-            return 0;
-        }
-        return 2;
-    }
-    if !lent_sound(links, values, desk, book, ask.links) {
-        return 3;
-    }
-    list_number(deque, ask)
-}
-
-fn take_lists(deque: &mut [u64], desk: &[u64]) {
-    let mut list: u64 = 0;
-    while list < 8 {
-        model::set_list(
-            deque,
-            list,
-            at(desk, plus(SHARES, list)),
-            at(desk, plus(LIMITS, list)),
-        );
-        list += 1;
-    }
-}
-
-// A setup that is done: the pool is no more damaged.
-fn setup(deque: &mut [u64], desk: &mut [u64], ask: Ask) {
-    put(desk, SIZE, ask.links);
-    put(desk, DAMAGED, 0);
-    model::set_lists(deque, ask.lists);
-    take_lists(deque, desk);
-    model::setup(deque, ask.links);
-}
-
-fn pop(deque: &mut [u64], kind: u64, list: u64) -> u64 {
-    if kind == 5 {
-        return model::pop_back(deque, list);
-    }
-    model::pop_front(deque, list)
-}
-
-fn push(deque: &mut [u64], kind: u64, list: u64, value: u64) -> u64 {
-    if kind == 3 {
-        model::push_back(deque, list, value);
-    } else {
-        model::push_front(deque, list, value);
-    }
-    0
-}
-
-fn change(deque: &mut [u64], ask: Ask) -> u64 {
-    let kind = ask.kind;
-    match kind {
-        3 | 4 => push(deque, kind, ask.list, ask.value),
-        5 | 6 => pop(deque, kind, ask.list),
-        2 | 7 | 8 => rings::count(deque, ask.list),
-        9 => {
-            model::clear(deque, ask.list);
-            0
-        }
-        _ => 0,
-    }
-}
-
-// The call is done on the deque. Answers the value that it must return, 0 where it returns none.
-pub(crate) fn done(deque: &mut [u64], desk: &mut [u64], ask: Ask) -> u64 {
-    if ask.kind == 0 {
-        setup(deque, desk, ask);
+// 2.
+fn setup_number(desk: &Desk, size: u64) -> u64 {
+    if sound::rules_kept(desk, ASKED, FRESH, size) {
         return 0;
     }
-    change(deque, ask)
+    2
+}
+
+// The number that the call must give. The tests run in the order 1 to 8. A pool of another size than it was set up for is not sound.
+fn number(desk: &Desk, kind: u64) -> u64 {
+    let size = get(desk, NOTES, LINKS_LENT);
+    if size != get(desk, NOTES, VALUES_LENT) {
+        return 1;
+    }
+    if 4094 < minus(size, 2) {
+        return 1;
+    }
+    let other = size ^ get(desk, NOTES, SIZE);
+    let wrong = other | get(desk, NOTES, STATE);
+    match kind {
+        0 => setup_number(desk, size),
+        _ => match wrong {
+            0 => match kind {
+                1 => 0,
+                _ => list_number(desk, kind),
+            },
+            _ => 3,
+        },
+    }
+}
+
+// The two rows are compared.
+fn compare(desk: &mut Desk, got: u64, wanted: u64) {
+    let span = get(desk, NOTES, SPAN);
+    let place = first_difference(desk, got, wanted, span);
+    if place < span {
+        out::difference(desk, got, wanted, place);
+        add_to(desk, NOTES, DIFFERENCES, 1);
+    }
+}
+
+// The number that the call must give, and the call done on the deque where that is 0. A refused setup answers with the all-zero book.
+fn expect(desk: &mut Desk, kind: u64) {
+    let number = number(desk, kind);
+    copy(desk, BOOK, WANTED, NUMBER);
+    set_four(desk, WANTED, NUMBER, number, 0, 0, 0);
+    match number {
+        0 => {
+            let value = deque::done(desk, kind);
+            deque::draw(desk);
+            copy(desk, BOOK, WANTED, NUMBER);
+            set(desk, WANTED, VALUE, value);
+        }
+        _ => match kind {
+            0 => fill(desk, WANTED, 0, NUMBER),
+            _ => {}
+        },
+    }
+}
+
+// What the call left and answered is held to what it must.
+pub(crate) fn judge(desk: &mut Desk) {
+    let kind = get(desk, NOTES, KIND);
+    let entry = plus(plus(kind << 3, kind), get(desk, GOT, NUMBER));
+    expect(desk, kind);
+    add_to(desk, TABLE, entry, 1);
+    compare(desk, GOT, WANTED);
+    compare(desk, GOT_LINKS, LINKS);
+    compare(desk, GOT_VALUES, VALUES);
+    compare(desk, GOT_BUFFER, BUFFER);
 }

@@ -1,141 +1,96 @@
 // What is written: the table of calls and numbers, and the first difference.
-use crate::asks::Ask;
-use crate::cells::at;
-use crate::cells::plus;
-use crate::places::DAMAGES;
-use crate::places::DIFFERENCE;
-use crate::places::SEED;
-use crate::places::SIZE;
-use crate::places::STEP;
-use crate::places::TABLE;
-use crate::places::WILD;
+use crate::desk::*;
 use libc::STDOUT_FILENO;
 
-pub(crate) fn say(text: &[u8]) {
+// Which number each call can give, by document 01: nine digits for each call, from number 0 to number 8, 1 where the call can give it.
+const MAY_GIVE: [u64; 10] = [
+    111000000,
+    110100000,
+    110110000,
+    110110110,
+    110110110,
+    110111000,
+    110111000,
+    110110001,
+    110110001,
+    110110000,
+];
+
+fn say(text: &[u8]) {
     io::write_all(STDOUT_FILENO, text);
 }
 
-// The first `count` bytes, or none where there are not so many.
-fn say_first(bytes: &[u8], count: usize) {
-    if count <= bytes.len() {
-        io::write_all(STDOUT_FILENO, &bytes[0..count]);
-    }
-}
-
-pub(crate) fn number(n: u64) {
+// A text and then a number.
+fn word(text: &[u8], n: u64) {
     let mut room = [0u8; 20];
     let count = digits::write(&mut room, 0, n);
-    say_first(&room, count);
-}
-
-// A text and then a number.
-pub(crate) fn word(text: &[u8], n: u64) {
     say(text);
-    number(n);
-}
-
-fn space_below(n: u64, bound: u64) {
-    if n < bound {
-        say(b" ");
+    if count <= 20 {
+        say(&room[0..count]);
     }
 }
 
-// A number in a column.
-fn column(n: u64) {
-    space_below(n, 100000);
-    space_below(n, 10000);
-    space_below(n, 1000);
-    space_below(n, 100);
-    space_below(n, 10);
-    word(b" ", n);
-}
-
-fn call_name(kind: u64) {
-    match kind {
-        0 => say(b"setup        "),
-        1 => say(b"check        "),
-        2 => say(b"length       "),
-        3 => say(b"push back    "),
-        4 => say(b"push front   "),
-        5 => say(b"pop back     "),
-        6 => say(b"pop front    "),
-        7 => say(b"read forward "),
-        8 => say(b"read backward"),
-        _ => say(b"clear        "),
+// One more digit: 1 where the number is not 0.
+fn digit(digits: u64, n: u64) -> u64 {
+    let tens = digits % 100000000 * 10;
+    match n {
+        0 => tens,
+        _ => tens + 1,
     }
 }
 
-fn row(desk: &[u64], kind: u64) {
+// How often a call gave each number. Answers nine digits, 1 for each number that it gave.
+fn row(desk: &Desk, kind: u64) -> u64 {
+    let mut gave: u64 = 0;
     let mut number: u64 = 0;
-    call_name(kind);
     while number < 9 {
-        column(at(desk, place(kind, number)));
+        let times = get(desk, TABLE, plus(plus(kind << 3, kind), number));
+        word(b" ", times);
+        gave = digit(gave, times);
         number += 1;
     }
     say(b"\n");
+    gave
 }
 
-// Where the table counts the calls of a kind that gave a number.
-pub(crate) fn place(kind: u64, number: u64) -> u64 {
-    if kind < 10 {
-        if number < 9 {
-            return TABLE + kind * 9 + number;
-        }
-    }
-    TABLE + 90
-}
-
-fn rows(desk: &[u64]) {
-    let mut kind: u64 = 0;
+// Answers how many calls gave every number of their row, and no other.
+fn table(desk: &Desk) -> u64 {
+    let mut right: u64 = 0;
+    let mut kind: usize = 0;
     while kind < 10 {
-        row(desk, kind);
+        if row(desk, long(kind)) == MAY_GIVE[kind] {
+            right = plus(right, 1);
+        }
         kind += 1;
     }
+    right
 }
 
-// The table, and how often the pool was damaged.
-pub(crate) fn table(desk: &[u64]) {
-    say(b"number             0      1      2      3      4      5      6      7      8\n");
-    rows(desk);
-    word(b"other numbers ", at(desk, plus(TABLE, 90)));
-    pools(desk);
-    word(b"\ndifferences ", at(desk, DIFFERENCE));
+pub(crate) fn summary(desk: &Desk) {
+    say(
+        b"how often each call gave the numbers 0 to 8: setup, check, length, push back, push front, ",
+    );
+    say(b"pop back, pop front, read forward, read backward, clear\n");
+    word(
+        b"calls that gave every number of their row, and no other: ",
+        table(desk),
+    );
+    word(b" of 10\ncalls ", get(desk, NOTES, CALLS));
+    word(b"\ndamaged pools ", get(desk, NOTES, HURTS));
+    word(b", not sound ", get(desk, NOTES, UNSOUND));
+    word(b"\ndifferences ", get(desk, NOTES, DIFFERENCES));
     say(b"\n");
 }
 
-fn pools(desk: &[u64]) {
-    word(b"\ndamaged pools ", at(desk, DAMAGES));
-    word(b", sound all the same ", at(desk, plus(DAMAGES, 1)));
-    word(b"\nwild pools ", at(desk, WILD));
-    word(b", sound all the same ", at(desk, plus(WILD, 1)));
-}
-
-fn what_differs(what: u64) {
-    match what {
-        1 => say(b": number"),
-        2 => say(b": value"),
-        3 => say(b": book"),
-        4 => say(b": cell"),
-        5 => say(b": buffer"),
-        6 => say(b": cell past the pool"),
-        _ => say(b": the pool is not sound"),
-    }
-}
-
-fn where_differs(desk: &[u64], ask: Ask) {
-    word(b"difference at size ", at(desk, SIZE));
-    word(b" seed ", at(desk, SEED));
-    word(b" step ", at(desk, STEP));
-    say(b" call ");
-    call_name(ask.kind);
-    word(b" list ", ask.list);
-}
-
-// The first difference.
-pub(crate) fn difference(desk: &[u64], ask: Ask, what: u64, found: u64, wanted: u64) {
-    where_differs(desk, ask);
-    what_differs(what);
-    word(b", number or value given ", found);
-    word(b", wanted ", wanted);
+// Two rows differ at a place: which call it was, and what stands there.
+pub(crate) fn difference(desk: &Desk, got: u64, wanted: u64, place: u64) {
+    word(b"difference at call ", get(desk, NOTES, CALLS));
+    word(b" on slots ", get(desk, NOTES, SIZE));
+    word(b", kind ", get(desk, NOTES, KIND));
+    word(b", list ", get(desk, NOTES, LIST));
+    word(b", row of the desk ", wanted);
+    word(b", place ", place);
+    word(b": got ", get(desk, got, place));
+    word(b", wanted ", get(desk, wanted, place));
     say(b"\n");
 }

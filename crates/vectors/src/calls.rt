@@ -1,135 +1,85 @@
-// The ten calls, each with a line that says the call in words and what it gave.
-use crate::out;
+// The ten calls, each by its code.
+use books::Answer;
 use books::Book;
+use books::Popped;
+use books::Refusal;
+use books::Value;
 
-pub(crate) fn setup(
-    links: &mut [u16],
-    values: &mut [u64],
-    lists: u16,
-    shares: [u16; 8],
-    limits: [u16; 8],
-) -> Book {
-    let answer = shares::setup::setup(links, values, lists, shares, limits);
-    let refusal = answer.refusal;
-    out::say(b"setup");
-    out::gives(refusal.number);
-    let book = answer.book;
-    book
+pub(crate) fn wide(x: u16) -> u64 {
+    x as u64
 }
 
-pub(crate) fn check(links: &[u16], values: &[u64], book: Book) {
-    let refusal = shares::check::check(links, values, book);
-    out::say(b"check");
-    out::gives(refusal.number);
+// A number as 16 bits, or 0 where it does not fit.
+fn narrow(x: u64) -> u16 {
+    if x < 65536 {
+        return x as u16;
+    }
+    0
 }
 
-pub(crate) fn length(links: &[u16], values: &[u64], book: Book, list: u16) {
-    let answer = shares::reads::length(links, values, book, list);
-    let refusal = answer.refusal;
-    out::word(b"length of list ", out::wide(list));
-    out::word(b": number ", out::wide(refusal.number));
-    out::word(b" length ", out::wide(answer.length));
-    out::say(b"\n");
+// The number, and the value popped, the length or the count read, or else 0.
+fn given(refusal: Refusal, value: u64) -> Value {
+    Value { refusal, value }
 }
 
-fn pushed(end: &[u8], list: u16, value: u64, number: u16) {
-    out::say(b"push ");
-    out::word(end, value);
-    out::word(b" on list ", out::wide(list));
-    out::gives(number);
+// The same with the book.
+fn answer_of(made: Answer) -> Popped {
+    let refusal = made.refusal;
+    let book = made.book;
+    Popped {
+        given: given(refusal, 0),
+        book,
+    }
 }
 
-pub(crate) fn push_back(
-    links: &mut [u16],
-    values: &mut [u64],
+// Two shares or limits, and none for the other lists.
+fn eight(one: u64, two: u64) -> [u16; 8] {
+    [narrow(one), narrow(two), 0, 0, 0, 0, 0, 0]
+}
+
+fn setup(links: &mut [u16], values: &mut [u64], lists: u16, four: u64) -> Popped {
+    let shares = eight(four / 1000, four / 100 % 10);
+    let limits = eight(four / 10 % 10, four % 10);
+    answer_of(shares::setup::setup(links, values, lists, shares, limits))
+}
+
+// The calls that change the pool.
+pub(crate) fn change(links: &mut [u16], values: &mut [u64], book: Book, code: u64) -> Popped {
+    let list = narrow(code / 10000 % 10);
+    let value = code % 10000;
+    match code / 100000 {
+        0 => return setup(links, values, list, value),
+        3 => return answer_of(shares::ends::push_back(links, values, book, list, value)),
+        4 => return answer_of(shares::ends::push_front(links, values, book, list, value)),
+        5 => return shares::ends::pop_back(links, values, book, list),
+        6 => return shares::ends::pop_front(links, values, book, list),
+        _ => return answer_of(shares::clear::clear(links, values, book, list)),
+    }
+}
+
+// The others. They return no book: it is as it was.
+pub(crate) fn look(
+    links: &[u16],
+    values: &[u64],
+    buffer: &mut [u64],
     book: Book,
-    list: u16,
-    value: u64,
-) -> Book {
-    let answer = shares::ends::push_back(links, values, book, list, value);
-    let refusal = answer.refusal;
-    pushed(b"back ", list, value, refusal.number);
-    let after = answer.book;
-    after
-}
-
-pub(crate) fn push_front(
-    links: &mut [u16],
-    values: &mut [u64],
-    book: Book,
-    list: u16,
-    value: u64,
-) -> Book {
-    let answer = shares::ends::push_front(links, values, book, list, value);
-    let refusal = answer.refusal;
-    pushed(b"front ", list, value, refusal.number);
-    let after = answer.book;
-    after
-}
-
-fn popped(end: &[u8], list: u16, number: u16, value: u64) {
-    out::say(b"pop ");
-    out::word(end, out::wide(list));
-    out::word(b": number ", out::wide(number));
-    out::word(b" value ", value);
-    out::say(b"\n");
-}
-
-pub(crate) fn pop_back(links: &mut [u16], values: &mut [u64], book: Book, list: u16) -> Book {
-    let answer = shares::ends::pop_back(links, values, book, list);
-    let given = answer.given;
-    let refusal = given.refusal;
-    popped(b"back on list ", list, refusal.number, given.value);
-    let after = answer.book;
-    after
-}
-
-pub(crate) fn pop_front(links: &mut [u16], values: &mut [u64], book: Book, list: u16) -> Book {
-    let answer = shares::ends::pop_front(links, values, book, list);
-    let given = answer.given;
-    let refusal = given.refusal;
-    popped(b"front on list ", list, refusal.number, given.value);
-    let after = answer.book;
-    after
-}
-
-fn has_read(way: &[u8], list: u16, at: usize, number: u16, count: u16) {
-    out::say(b"read ");
-    out::word(way, out::wide(list));
-    out::word(b" at ", out::long(at));
-    out::word(b": number ", out::wide(number));
-    out::word(b" count ", out::wide(count));
-}
-
-fn buffer_is(buffer: &[u64]) {
-    out::say(b" buffer ");
-    out::values_between(buffer, 0, buffer.len());
-    out::say(b"\n");
-}
-
-// Into a buffer of eight places that hold 7.
-pub(crate) fn read_forward(links: &[u16], values: &[u64], book: Book, list: u16, at: usize) {
-    let mut buffer = [7u64; 8];
-    let answer = shares::reads::read_forward(links, values, book, list, &mut buffer, at);
-    let refusal = answer.refusal;
-    has_read(b"forward of list ", list, at, refusal.number, answer.count);
-    buffer_is(&buffer);
-}
-
-// The same.
-pub(crate) fn read_backward(links: &[u16], values: &[u64], book: Book, list: u16, at: usize) {
-    let mut buffer = [7u64; 8];
-    let answer = shares::reads::read_backward(links, values, book, list, &mut buffer, at);
-    let refusal = answer.refusal;
-    has_read(b"backward of list ", list, at, refusal.number, answer.count);
-    buffer_is(&buffer);
-}
-
-pub(crate) fn clear(links: &mut [u16], values: &mut [u64], book: Book, list: u16) -> Book {
-    let answer = shares::clear::clear(links, values, book, list);
-    let refusal = answer.refusal;
-    out::word(b"clear list ", out::wide(list));
-    out::gives(refusal.number);
-    let after = answer.book;
-    after
+    code: u64,
+) -> Value {
+    let list = narrow(code / 10000 % 10);
+    let at = (code % 10000) as usize;
+    match code / 100000 {
+        1 => return given(shares::check::check(links, values, book), 0),
+        2 => {
+            let found = shares::reads::length(links, values, book, list);
+            return given(found.refusal, wide(found.length));
+        }
+        7 => {
+            let read = shares::reads::read_forward(links, values, book, list, buffer, at);
+            return given(read.refusal, wide(read.count));
+        }
+        _ => {
+            let read = shares::reads::read_backward(links, values, book, list, buffer, at);
+            return given(read.refusal, wide(read.count));
+        }
+    }
 }

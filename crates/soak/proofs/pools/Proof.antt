@@ -1,16 +1,14 @@
--- `soak::pools` ends: the measure is what `k` has left to `12`.
-use mathlib.Core.Path.{_≡_}
+-- `soak::pools` ends: the measure is what `k` has left to 12.
 use Prim.Native.Nat.{_-_}
-use lib.ListN.{length}
 use borrow.Author.Needs.{needs}
 use Rattle.soak.proofs.pools.Statement.{statement}
 use Rattle.soak.proofs.pools.Tie as tie
 
 abbrev Inv-loop : tie.InvT-loop
-Inv-loop links₀ values₀ buffer₀ deque₀ desk₀ seed k₀ links values buffer deque desk k = (length links ≡ length links₀) × (length values ≡ length values₀) × (length buffer ≡ length buffer₀) × (length deque ≡ length deque₀) × (length desk ≡ length desk₀)
+Inv-loop desk₀ k₀ desk k = Unit {0}
 
 abbrev μ-loop : tie.MeasureT-loop
-μ-loop links₀ values₀ buffer₀ deque₀ desk₀ seed k₀ links values buffer deque desk k = 12 - k
+μ-loop desk₀ k₀ desk k = 12 - k
 
 pub pools-spec : {M : Type 1} → statement M
-pools-spec = tie.close (tie.spec Inv-loop μ-loop (λ c. search needs) (λ c. search needs) (λ c. search needs) (λ c. search needs) (λ c. search needs) (λ c. search needs) (λ c. search needs) (λ c. search needs) (λ c. search needs) (λ c. search needs) (λ c. search needs) (λ c. search needs) (λ c. search needs) (λ c. search needs) (λ c. search needs) (λ c. search needs) (λ c. search needs))
+pools-spec = tie.close (tie.spec Inv-loop μ-loop (λ c. search needs) (λ c. search needs) (λ c. search needs) (λ c. search needs) (λ c. search needs) (λ c. search needs) (λ c. search needs) (λ c. search needs) (λ c. search needs) (λ c. search needs))

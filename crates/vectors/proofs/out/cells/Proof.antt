@@ -1,0 +1,15 @@
+-- `vectors::out::cells` ends: the measure is what `k` has left to `length cells`.
+use lib.ListN.{length}
+use Prim.Native.Nat.{_-_}
+use borrow.Author.Needs.{needs}
+use Rattle.vectors.proofs.out.cells.Statement.{statement}
+use Rattle.vectors.proofs.out.cells.Tie as tie
+
+abbrev Inv-loop : tie.InvT-loop
+Inv-loop text cells k₀ t4 k = Unit {0}
+
+abbrev μ-loop : tie.MeasureT-loop
+μ-loop text cells k₀ t4 k = length cells - k
+
+pub cells-spec : {M : Type 1} → statement M
+cells-spec = tie.close (tie.spec Inv-loop μ-loop (λ c. search needs) (λ c. search needs) (λ c. search needs) (λ c. search needs) (λ c. search needs) (λ c. search needs) (λ c. search needs) (λ c. search needs) (λ c. search needs) (λ c. search needs) (λ c. search needs) (λ c. search needs))
