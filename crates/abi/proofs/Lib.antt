@@ -1,4 +1,3 @@
 -- What the proofs of the C face's code share, and what its promises are.
-pub mod Put
 pub mod Thin
 pub mod Promised

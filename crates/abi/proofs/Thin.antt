@@ -15,9 +15,9 @@ module _ (words : List ℕ) {after links values : List ℕ} {number : ℕ} where
       → outcome (changed number after) links values ≡ asChanged words o
   changed-by {r} e f g = rw e (rw f refl) ∙ ap (λ (x : Outcome Answer). asChanged words x) g
 
-  pub handed-by : {r : Popped} {o : Outcome Popped} → number ≡ r .given .refusal .number → after ≡ kept (r .given .refusal .number) words (r .book) → outcome r links values ≡ o
-      → outcome (handed number (r .given .value) after) links values ≡ asHanded words o
-  handed-by {r} e f g = rw e (rw f refl) ∙ ap (λ (x : Outcome Popped). asHanded words x) g
+  pub handed-by : {r : Popped} {o : Outcome Popped} {value : ℕ} → number ≡ r .given .refusal .number → value ≡ r .given .value → after ≡ kept (r .given .refusal .number) words (r .book) → outcome r links values ≡ o
+      → outcome (handed number value after) links values ≡ asHanded words o
+  handed-by {r} e v f g = rw (e, v, f) (ap (λ (x : Outcome Popped). asHanded words x) g)
 
 pub shown-by : {buffer : List ℕ} {r : Read} {o : ReadLeft} → readLeft r buffer ≡ o → shown (r .refusal .number) (r .count) buffer ≡ asShown o
 shown-by g = ap (λ (x : ReadLeft). asShown x) g

@@ -1,6 +1,10 @@
 // Setup, the pushes, the pops and clear for C. A refused one changes neither the pool nor the book, and stores nothing there.
-use crate::words::book_from;
 use crate::words::keep;
+use pools::words::entry_of;
+use pools::words::free_of;
+use pools::words::lists_of;
+use shapes::End;
+use shares::refusals::list_number;
 ghost use mathlib.Core.Path.{_≡_};
 ghost use Rattle.books.specs.Outcome.{outcome};
 ghost use Rattle.faces.specs.Face.{changed, handed, setupFace, pushBackFace, pushFrontFace, popBackFace, popFrontFace, clearFace};
@@ -16,12 +20,11 @@ pub extern "C" fn flailreeve_setup(
 ) -> u16
     ensures { λ r. ⌜ outcome (changed r (now (book .exit))) (now (links .exit)) (now (values .exit)) ≡ setupFace (now (links .entry)) (now (values .entry)) lists (now (shares .entry)) (now (limits .entry)) (now (book .entry)) ⌝ }
 {
-    let all_shares = *shares;
-    let all_limits = *limits;
-    let answer = shares::setup::setup(links, values, lists, all_shares, all_limits);
-    let refusal = answer.refusal;
-    let after = answer.book;
-    keep(book, refusal.number, after)
+    let number = shares::setup::lay_out(links, values, lists, shares, limits);
+    if number == 0 {
+        *book = pools::words::fresh_words(lists, shares, limits);
+    }
+    number
 }
 
 #[no_mangle]
@@ -34,11 +37,17 @@ pub extern "C" fn flailreeve_push_back(
 ) -> u16
     ensures { λ r. ⌜ outcome (changed r (now (book .exit))) (now (links .exit)) (now (values .exit)) ≡ pushBackFace (now (links .entry)) (now (values .entry)) (now (book .entry)) list value ⌝ }
 {
-    let held = book_from(book);
-    let answer = shares::ends::push_back(links, values, held, list, value);
-    let refusal = answer.refusal;
-    let after = answer.book;
-    keep(book, refusal.number, after)
+    let seen = pools::check::look(links, values, book, list);
+    let refusal = seen.refusal;
+    let early = list_number(refusal.number, lists_of(book), list);
+    if early != 0 {
+        return early;
+    }
+    let found = seen.found;
+    let entry = entry_of(book, list);
+    let free = free_of(book);
+    let gone = shares::core::push(links, values, End::Back, entry, free, found, value);
+    keep(book, list, gone)
 }
 
 #[no_mangle]
@@ -51,11 +60,17 @@ pub extern "C" fn flailreeve_push_front(
 ) -> u16
     ensures { λ r. ⌜ outcome (changed r (now (book .exit))) (now (links .exit)) (now (values .exit)) ≡ pushFrontFace (now (links .entry)) (now (values .entry)) (now (book .entry)) list value ⌝ }
 {
-    let held = book_from(book);
-    let answer = shares::ends::push_front(links, values, held, list, value);
-    let refusal = answer.refusal;
-    let after = answer.book;
-    keep(book, refusal.number, after)
+    let seen = pools::check::look(links, values, book, list);
+    let refusal = seen.refusal;
+    let early = list_number(refusal.number, lists_of(book), list);
+    if early != 0 {
+        return early;
+    }
+    let found = seen.found;
+    let entry = entry_of(book, list);
+    let free = free_of(book);
+    let gone = shares::core::push(links, values, End::Front, entry, free, found, value);
+    keep(book, list, gone)
 }
 
 #[no_mangle]
@@ -68,13 +83,18 @@ pub extern "C" fn flailreeve_pop_back(
 ) -> u16
     ensures { λ r. ⌜ outcome (handed r (now (value .exit)) (now (book .exit))) (now (links .exit)) (now (values .exit)) ≡ popBackFace (now (links .entry)) (now (values .entry)) (now (book .entry)) list ⌝ }
 {
-    let held = book_from(book);
-    let answer = shares::ends::pop_back(links, values, held, list);
-    let given = answer.given;
-    let refusal = given.refusal;
-    let after = answer.book;
-    *value = given.value;
-    keep(book, refusal.number, after)
+    let seen = pools::check::look(links, values, book, list);
+    let refusal = seen.refusal;
+    let early = list_number(refusal.number, lists_of(book), list);
+    if early != 0 {
+        *value = 0;
+        return early;
+    }
+    let found = seen.found;
+    let entry = entry_of(book, list);
+    let free = free_of(book);
+    let gone = shares::core::pop(links, values, End::Back, entry, free, found, value);
+    keep(book, list, gone)
 }
 
 #[no_mangle]
@@ -87,13 +107,18 @@ pub extern "C" fn flailreeve_pop_front(
 ) -> u16
     ensures { λ r. ⌜ outcome (handed r (now (value .exit)) (now (book .exit))) (now (links .exit)) (now (values .exit)) ≡ popFrontFace (now (links .entry)) (now (values .entry)) (now (book .entry)) list ⌝ }
 {
-    let held = book_from(book);
-    let answer = shares::ends::pop_front(links, values, held, list);
-    let given = answer.given;
-    let refusal = given.refusal;
-    let after = answer.book;
-    *value = given.value;
-    keep(book, refusal.number, after)
+    let seen = pools::check::look(links, values, book, list);
+    let refusal = seen.refusal;
+    let early = list_number(refusal.number, lists_of(book), list);
+    if early != 0 {
+        *value = 0;
+        return early;
+    }
+    let found = seen.found;
+    let entry = entry_of(book, list);
+    let free = free_of(book);
+    let gone = shares::core::pop(links, values, End::Front, entry, free, found, value);
+    keep(book, list, gone)
 }
 
 #[no_mangle]
@@ -105,9 +130,15 @@ pub extern "C" fn flailreeve_clear(
 ) -> u16
     ensures { λ r. ⌜ outcome (changed r (now (book .exit))) (now (links .exit)) (now (values .exit)) ≡ clearFace (now (links .entry)) (now (values .entry)) (now (book .entry)) list ⌝ }
 {
-    let held = book_from(book);
-    let answer = shares::clear::clear(links, values, held, list);
-    let refusal = answer.refusal;
-    let after = answer.book;
-    keep(book, refusal.number, after)
+    let seen = pools::check::look(links, values, book, list);
+    let refusal = seen.refusal;
+    let early = list_number(refusal.number, lists_of(book), list);
+    if early != 0 {
+        return early;
+    }
+    let found = seen.found;
+    let entry = entry_of(book, list);
+    let free = free_of(book);
+    let gone = shares::core::clear(links, values, entry, free, found);
+    keep(book, list, gone)
 }

@@ -1,4 +1,5 @@
 // Check, length and the reads for C. They change neither the pool nor the book.
+use shapes::End;
 ghost use mathlib.Core.Path.{_≡_};
 ghost use Rattle.faces.specs.Face.{told, shown, checkFace, lengthFace, readForwardFace, readBackwardFace};
 
@@ -6,8 +7,7 @@ ghost use Rattle.faces.specs.Face.{told, shown, checkFace, lengthFace, readForw
 pub extern "C" fn flailreeve_check(links: &[u16], values: &[u64], book: &[u16; 34]) -> u16
     ensures { λ r. ⌜ r ≡ checkFace (now (links .entry)) (now (values .entry)) (now (book .entry)) ⌝ }
 {
-    let held = crate::words::book_from(book);
-    let refusal = shares::check::check(links, values, held);
+    let refusal = shares::check::check_words(links, values, book);
     refusal.number
 }
 
@@ -21,8 +21,7 @@ pub extern "C" fn flailreeve_length(
 ) -> u16
     ensures { λ r. ⌜ told r (now (length .exit)) ≡ lengthFace (now (links .entry)) (now (values .entry)) (now (book .entry)) list ⌝ }
 {
-    let held = crate::words::book_from(book);
-    let answer = shares::reads::length(links, values, held, list);
+    let answer = shares::reads::length_words(links, values, book, list);
     let refusal = answer.refusal;
     *length = answer.length;
     refusal.number
@@ -40,8 +39,7 @@ pub extern "C" fn flailreeve_read_forward(
 ) -> u16
     ensures { λ r. ⌜ shown r (now (count .exit)) (now (out .exit)) ≡ readForwardFace (now (links .entry)) (now (values .entry)) (now (book .entry)) list (now (out .entry)) at ⌝ }
 {
-    let held = crate::words::book_from(book);
-    let answer = shares::reads::read_forward(links, values, held, list, out, at);
+    let answer = shares::reads::read_words(links, values, End::Front, book, list, out, at);
     let refusal = answer.refusal;
     *count = answer.count;
     refusal.number
@@ -59,8 +57,7 @@ pub extern "C" fn flailreeve_read_backward(
 ) -> u16
     ensures { λ r. ⌜ shown r (now (count .exit)) (now (out .exit)) ≡ readBackwardFace (now (links .entry)) (now (values .entry)) (now (book .entry)) list (now (out .entry)) at ⌝ }
 {
-    let held = crate::words::book_from(book);
-    let answer = shares::reads::read_backward(links, values, held, list, out, at);
+    let answer = shares::reads::read_words(links, values, End::Back, book, list, out, at);
     let refusal = answer.refusal;
     *count = answer.count;
     refusal.number

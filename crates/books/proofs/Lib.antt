@@ -3,4 +3,8 @@ pub mod Tests
 pub mod Rules
 pub mod Numbers
 pub mod Tabulate
+pub mod Eight
+pub mod Flat
+pub mod Fill
+pub mod Stored
 pub mod Table

@@ -4,4 +4,5 @@ pub mod Rules
 pub mod Test
 pub mod Outcome
 pub mod Tabulate
+pub mod Words
 pub mod Table

@@ -26,7 +26,7 @@ use Rattle.engines.specs.Engine.{Engine}
 use Rattle.engines.specs.Sound.{EntryHolds}
 use Rattle.engines.specs.Laws.{Lawful}
 use Rattle.engines.specs.FirstFault.{Chained, LowestOver}
-use Rattle.engines.specs.Check.{livePath, endsWell, gatherAll}
+use Rattle.engines.specs.Check.{headPath, livePath, endsWell, gatherAll}
 use Rattle.shapes.proofs.Walks.{walk-fresh, walk-only, walk-finds, walkable-passed}
 
 -- the chains `cs` of the lists `es`, with no slot twice and none that was met
@@ -138,9 +138,12 @@ module _ (E : Engine) (links : E .Links) (met met′ : List ℕ) (e : Entry) (es
 
 -- ---- the walk along one list
 
+pub head-fresh : (E : Engine) (links : E .Links) (met : List ℕ) (head : ℕ) → Passes (E .size links) met (headPath E links met head .slots)
+head-fresh E links met head = walk-fresh (E .onward Front links) (E .fits links) (E .size links) met head
+
 module _ (E : Engine) (links : E .Links) (met : List ℕ) (list : Entry) where
   pub live-fresh : Passes (E .size links) met (livePath E links met list .slots)
-  live-fresh = walk-fresh (E .onward Front links) (E .fits links) (E .size links) met (list .head)
+  live-fresh = head-fresh E links met (list .head)
 
   pub live-only : Lawful E → livePath E links met list .ok ≡ true → (list .head ≡ firstOr 0 (livePath E links met list .slots)) × E .Live links (livePath E links met list .slots)
   live-only L h = let (e, t) = walk-only (E .onward Front links) (E .fits links) (E .size links) met (list .head) h in (e, L .liveTied links _ .1 t)

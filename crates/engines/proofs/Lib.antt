@@ -19,6 +19,7 @@ pub mod Fresh
 pub mod When
 pub mod Outcomes
 pub mod Looking
+pub mod OnList
 pub mod Exactly
 pub mod Book
 pub mod Tight

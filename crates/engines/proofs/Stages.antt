@@ -1,12 +1,13 @@
 -- The stages of the check one by one, as code takes them: the lowest slot not met, one list at a time, how many slots are live, and what the whole pool gives.
 use mathlib.Core.Path.{_≡_, refl, sym, subst, ap, _∙_}
 use mathlib.Core.Logic.{_≢_}
-use mathlib.Core.Bool.{true, false}
+use mathlib.Core.Bool.{Bool, true, false, _&&_}
 use mathlib.Core.List.{List, [], _∷_}
 use Prim.Native.Nat.{ℕ, zero, suc, _+_, _-_, _≤_, _<_}
 use native.Mathlib.Numerals.{add-one}
 use native.Mathlib.Nat.{not-suc-le-zero}
 use native.Mathlib.Omega.{arith}
+use lib.Dec.{eqb}
 use lib.ListN.{length, take, drop, length-replicate, drop-of-length-le}
 use lib.Seq.{drop-cons}
 use borrow.Author.Tests.{eq-eqb, ne-eqb}
@@ -22,9 +23,9 @@ use Rattle.shapes.specs.Faults.{fault, nothingMet, gatheredNone, gatherOne, gat
 use Rattle.shapes.proofs.Seen.{unmet-le}
 use Rattle.shapes.proofs.Walks.{pass-unmet}
 use Rattle.engines.specs.Engine.{Engine}
-use Rattle.engines.specs.Check.{livePath, endsWell, idlePath, gatherAll, nullSlotZero, idleFound, poolFound}
+use Rattle.engines.specs.Check.{headPath, livePath, endsWell, idlePath, gatherAll, nullSlotZero, idleFound, poolFound}
 use Rattle.engines.specs.Walked.{LiveWalked}
-use Rattle.engines.proofs.Gather.{live-fresh, gather-goes}
+use Rattle.engines.proofs.Gather.{head-fresh, live-fresh, gather-goes}
 use Rattle.engines.proofs.Idle.{idle-fresh}
 
 -- ---- one list at a time, as a loop takes them
@@ -34,20 +35,24 @@ module _ (E : Engine) (wanted lists : ℕ) (links : E .Links) (met : List ℕ) (
   unfolding gatherAll
   gather-done h = rw (drop-of-length-le es h)
 
-  module _ {w : LiveWalk} {met′ : List ℕ} (W : LiveWalked E links met (entryAt es k) w met′) (b : k < length es) where
-    pub gather-next : w .ok ≡ true
+  -- `t` is what the caller tests of the walk: that it came to its end, and at the list's tail
+  module _ {w : LiveWalk} {met′ : List ℕ} {t : Bool} (W : LiveWalked E links met (entryAt es k .head) w met′) (told : t ≡ (w .ok && eqb (w .last) (entryAt es k .tail))) (b : k < length es) where
+    walk-told : endsWell (livePath E links met (entryAt es k)) (entryAt es k) ≡ t
+    walk-told = rw (told, W .ok, W .last)
+
+    pub gather-next : t ≡ true
         → gatherAll E wanted lists links (k + 1) (drop (k + 1) es) met′ (gatherOne wanted lists k (entryAt es k) (w .length) g) ≡ gatherAll E wanted lists links k (drop k es) met g
     gather-next h =
         rw (drop-cons es k zeroEntry b, W .marked, W .counted, add-one)
-        (sym (gather-goes E wanted lists links k (entryAt es k) (drop (suc k) es) met g (sym (W .ok) ∙ h)))
+        (sym (gather-goes E wanted lists links k (entryAt es k) (drop (suc k) es) met g (walk-told ∙ h)))
 
-    pub gather-halt : w .ok ≡ false → round (gatherFault k (w .length) g) met′ ≡ gatherAll E wanted lists links k (drop k es) met g
+    pub gather-halt : t ≡ false → round (gatherFault k (w .length) g) met′ ≡ gatherAll E wanted lists links k (drop k es) met g
     unfolding gatherAll
-    gather-halt h = rw (drop-cons es k zeroEntry b, W .marked, W .counted, sym (W .ok) ∙ h)
+    gather-halt h = rw (drop-cons es k zeroEntry b, W .marked, W .counted, walk-told ∙ h)
 
 -- the slots that a list's walk passes are no longer to be met
-pub live-unmet : {E : Engine} {links : E .Links} {met : List ℕ} {list : Entry} {w : LiveWalk} {met′ : List ℕ} → LiveWalked E links met list w met′ → w .length + unmet met′ ≡ unmet met
-live-unmet {E} {links} {met} {list} W = rw (W .counted, W .marked) (pass-unmet met (livePath E links met list .slots) (live-fresh E links met list .once))
+pub live-unmet : {E : Engine} {links : E .Links} {met : List ℕ} {head : ℕ} {w : LiveWalk} {met′ : List ℕ} → LiveWalked E links met head w met′ → w .length + unmet met′ ≡ unmet met
+live-unmet {E} {links} {met} {head} W = rw (W .counted, W .marked) (pass-unmet met (headPath E links met head .slots) (head-fresh E links met head .once))
 
 -- ---- the lowest slot that was not met, one slot at a time
 

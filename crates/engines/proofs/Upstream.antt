@@ -8,9 +8,10 @@ use native.Mathlib.Omega.{arith}
 use lib.ListN.{length, take, drop, getD-replicate, length-map}
 use lib.Seq.{getD-set-same, getD-set-other}
 use Rattle.chains.specs.Chain.{cell}
+use Rattle.chains.proofs.Count.{count-append}
 use Rattle.shapes.specs.declared.End.{End}
 use Rattle.shapes.specs.Ends.{joined, contents, fromEnd}
-use Rattle.shapes.specs.Shape.{Shape, chainAt, put, Room}
+use Rattle.shapes.specs.Shape.{Shape, chainAt, joinedUp, put, Room}
 use Rattle.shapes.specs.Changes.{OtherEntries, OtherLists}
 use Rattle.shapes.specs.Moves.{Move, askLength, clear}
 use Rattle.engines.specs.Engine.{Engine}
@@ -167,7 +168,8 @@ push-room L S l h end value = push-zero L S l h end value
 -- ---- free slots
 
 wiped-in : {E : Engine} {st : State E} → SoundState E st → FreeWiped E st
-wiped-in (s, S) = (s, S, S .pool .wiped)
+wiped-in (s, S) =
+    (s, S, λ y low high none. S .pool .wiped y (omega (arith, none, S .pool .once y low high, count-append y (joinedUp (s .chains)) (s .idle))))
 
 -- demand 2: "Every free slot's value is zero after a done call": after setup, and after each of the other nine
 pub setup-wiped : {E : Engine} (L : Lawful E) (places : ℕ) (links : E .Links) (values : List ℕ) (lists : ℕ) (shares limits : List ℕ) → setupCall E places links values lists shares limits .number ≡ 0

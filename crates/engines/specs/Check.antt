@@ -22,9 +22,13 @@ use Rattle.engines.specs.Engine.{Engine}
 unfoldable pub sizesFit : (E : Engine) → E .Links → List ℕ → Bool
 sizesFit E links values = E .even links && (eqb (E .size links) (length values) && sizeFits (E .size links))
 
+-- the walk along a chain from its first slot, with none before it
+abbrev pub headPath : (E : Engine) → E .Links → List ℕ → ℕ → Path
+headPath E links met head = walkFrom (E .onward Front links) (E .fits links) (E .size links) met head
+
 -- the walk along a list's chain, from its head
 abbrev pub livePath : (E : Engine) → E .Links → List ℕ → Entry → Path
-livePath E links met list = walkFrom (E .onward Front links) (E .fits links) (E .size links) met (list .head)
+livePath E links met list = headPath E links met (list .head)
 
 -- the walk came to its end, at the list's tail
 abbrev pub endsWell : Path → Entry → Bool

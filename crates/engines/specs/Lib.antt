@@ -9,6 +9,7 @@ pub mod FirstFault
 pub mod Walked
 pub mod Reads
 pub mod Calls
+pub mod OnList
 pub mod Done
 pub mod Moves
 pub mod Rows

@@ -2,12 +2,12 @@
 use mathlib.Core.Path.{_≡_}
 use mathlib.Core.List.{List}
 use Prim.Native.Nat.{ℕ, _<_}
-use Rattle.books.specs.Book.{wipeWord, AnyBook}
+use Rattle.books.specs.Book.{nullSlot, wipeWord, AnyBook}
 use Rattle.chains.specs.Count.{count}
 use Rattle.chains.specs.Chain.{cell}
 use Rattle.shapes.specs.declared.End.the-variants.{Front, Back}
 use Rattle.shapes.specs.Ends.{contents}
-use Rattle.shapes.specs.Shape.{Shape, chainAt}
+use Rattle.shapes.specs.Shape.{Shape, chainAt, joinedUp}
 use Rattle.shapes.specs.Moves.{Move, check, askLength, pushBack, pushFront, popBack, popFront, readForward, readBackward, clear}
 use Rattle.engines.specs.Engine.{Engine}
 use Rattle.engines.specs.Sound.{SoundBook}
@@ -64,6 +64,8 @@ module _ (E : Engine) where
   abbrev pub SoundState : State E → Type 0
   SoundState st = (s : Shape) × SoundBook E (st .links) (st .values) (st .book) s
 
-  -- the pool is sound, and every free slot's value is the wipe word
+  -- the pool is sound, and, apart from what that asks of a free slot: every slot from 1 to N-1 that stands in no list's sequence holds the wipe word
   abbrev pub FreeWiped : State E → Type 0
-  FreeWiped st = (s : Shape) × SoundBook E (st .links) (st .values) (st .book) s × ((y : ℕ) → 0 < count y (s .idle) → cell (st .values) y ≡ wipeWord)
+  FreeWiped st =
+      (s : Shape) × SoundBook E (st .links) (st .values) (st .book) s
+      × ((y : ℕ) → nullSlot < y → y < E .size (st .links) → count y (joinedUp (s .chains)) ≡ 0 → cell (st .values) y ≡ wipeWord)

@@ -8,7 +8,6 @@ use Rattle.books.specs.declared.Free.{Free}
 use Rattle.books.specs.declared.Entry.{Entry}
 use Rattle.books.specs.Book.{nullSlot}
 use Rattle.chains.specs.Chain.{cell}
-use Rattle.shapes.specs.declared.ClearStep.{ClearStep}
 use Rattle.shapes.specs.declared.End.{End}
 use Rattle.shapes.specs.declared.End.the-variants.{Front}
 use Rattle.engines.specs.Engine.{Engine, Step}
@@ -46,7 +45,3 @@ clearOn E (suc count) links values list free =
     cond (gone .done)
     (clearOn E count (gone .links) (gone .values) (gone .entry) (gone .free))
     (record { done = false; value = 0; entry = gone .entry; free = gone .free; links = gone .links; values = gone .values })
-
--- what a function that empties a list answers, with the slices, as a step
-abbrev pub clearLeft : {Links : Type 0} → ClearStep → Links → List ℕ → Step Links
-clearLeft r links values = record { done = r .done; value = 0; entry = r .entry; free = r .free; links = links; values = values }

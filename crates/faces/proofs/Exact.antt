@@ -14,10 +14,11 @@ use Rattle.engines.specs.Done.{Refused}
 use Rattle.engines.proofs.Fresh.{setup-refused}
 use Rattle.engines.proofs.Outcomes.{push-refused, pop-refused, clear-refused, read-refused, length-refused}
 use Rattle.xor.specs.Engine.{xor}
-use Rattle.faces.specs.Words.{bookFrom, kept}
+use Rattle.books.specs.Words.{bookFrom}
+use Rattle.faces.specs.Words.{kept}
 use Rattle.faces.specs.Face.{asChanged, asHanded, setupFace, checkFace, lengthFace, pushBackFace, pushFrontFace, popBackFace, popFrontFace, readForwardFace, readBackwardFace, clearFace}
 use Rattle.faces.specs.Meaning.{SameChange, SamePop, SameLength, SameRead, NotChanged, NotPopped, NotRead}
-use Rattle.faces.proofs.Flat.{words-kept}
+use Rattle.books.proofs.Flat.{words-kept}
 use Rattle.faces.proofs.Kept.{kept-done, kept-refused}
 
 -- ---- said once for the calls that change the pool

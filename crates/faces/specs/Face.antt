@@ -6,7 +6,8 @@ use Rattle.books.specs.declared.Answer.{Answer}
 use Rattle.books.specs.declared.Popped.{Popped}
 use Rattle.xor.specs.Ten.{setupOf, checkOf, lengthOf, pushBackOf, pushFrontOf, popBackOf, popFrontOf, readForwardOf, readBackwardOf, clearOf}
 use Rattle.shapes.specs.Tests.{ReadLeft}
-use Rattle.faces.specs.Words.{bookFrom, kept}
+use Rattle.books.specs.Words.{bookFrom}
+use Rattle.faces.specs.Words.{kept}
 
 -- setup, the pushes and clear: the number, and the lent book
 pub record Changed : Type 0 where

@@ -1,24 +1,11 @@
--- The book as C has it, 34 words, in the order of `struct flailreeve_book`. The words of a book are `wordsOf`, beside the book's own definition.
+-- The lent words after a call of the C face.
 use mathlib.Core.Bool.{cond}
 use mathlib.Core.List.{List}
-use Prim.Native.Nat.{ℕ, _+_, _*_}
+use Prim.Native.Nat.{ℕ}
 use lib.Dec.{eqb}
-use lib.ListN.{getD}
-use Rattle.books.specs.declared.Entry.{Entry}
 use Rattle.books.specs.declared.Book.{Book}
-use Rattle.books.specs.Book.{mostLists, wordsOf}
-use Rattle.books.specs.Tabulate.{tabulate}
+use Rattle.books.specs.Book.{wordsOf}
 
--- list l's entry: four words, after the first word and the entries before it
-abbrev pub entryFrom : List ℕ → ℕ → Entry
-entryFrom words l = record { head = getD words (4 * l + 1) 0; tail = getD words (4 * l + 2) 0; share = getD words (4 * l + 3) 0; limit = getD words (4 * l + 4) 0 }
-
-abbrev pub entriesFrom : List ℕ → List Entry
-entriesFrom words = tabulate mostLists (entryFrom words)
-
-abbrev pub bookFrom : List ℕ → Book
-bookFrom words = record { lists = getD words 0 0; entries = entriesFrom words; free = record { head = getD words 33 0 } }
-
--- the lent words after a call: those of the book that it returned where it is done, and else as they were
+-- those of the book that it returned where it is done, and else as they were
 unfoldable pub kept : ℕ → List ℕ → Book → List ℕ
 kept number words book = cond (eqb number 0) (wordsOf book) words

@@ -1,11 +1,15 @@
 // The check: in stages along the lists and the idle chain, with what it gathers on the way and where it finds a pool unsound.
+use crate::words::head_at;
+use crate::words::limit_at;
+use crate::words::share_at;
+use crate::words::tail_at;
 use books::Book;
-use books::Entry;
 use books::Free;
 use books::Refusal;
 use shapes::Fault;
 use shapes::Found;
 use shapes::Gathered;
+use shapes::LiveWalk;
 use shapes::Looked;
 ghost use mathlib.Core.Path.{_≡_};
 ghost use mathlib.Core.Bool.{cond, _&&_};
@@ -14,6 +18,7 @@ ghost use lib.Dec.{eqb, ltb};
 ghost use lib.ListN.{length, take};
 ghost use Rattle.books.specs.Book.{eight};
 ghost use Rattle.books.specs.Rules.{Size};
+ghost use Rattle.books.specs.Words.{entryFrom, entriesFrom, bookFrom};
 ghost use Rattle.shapes.specs.Met.{unmet};
 ghost use Rattle.shapes.specs.Faults.{fault, gatherOne, gatherFault, gatheredNone, round, nothingMet, faulty, lowestUnmet, idleFault, spareFault, refusedBy};
 ghost use Rattle.engines.specs.Sound.{Fit};
@@ -44,37 +49,60 @@ fn over_of(count: u16, list: u16, limit: u16, many: usize, over: u16) -> u16
     over
 }
 
-// One list more, number `list` of `count`, whose walk passed `many` slots. Neither sum wraps.
+// Did the walk come to its end, at the tail of that list? The tail is read last.
+fn ends_well(walk: LiveWalk, words: &[u16; 34], list: usize) -> bool
+    requires { ⌜ list < 8 ⌝ }
+    ensures { λ r. ⌜ r ≡ (walk .ok && eqb (walk .last) (entryFrom (now (words .entry)) list .tail)) ⌝ }
+{
+    if walk.ok {
+        return walk.last == rules::wide(tail_at(words, list));
+    }
+    false
+}
+
+// The length of the list that is asked for: of this list, or as it was.
+fn asked_length(wanted: u16, list: u16, many: usize, before: usize) -> usize
+    ensures { λ r. ⌜ r ≡ cond (eqb list wanted) many before ⌝ }
+{
+    if list == wanted {
+        return many;
+    }
+    before
+}
+
+// One list more, number `list` of `count`, whose walk passed `many` slots. Neither sum wraps. An empty list lacks its whole share, and
+// nothing else of it counts.
 fn gather_one(
     wanted: u16,
     count: u16,
     list: u16,
-    entry: Entry,
+    words: &[u16; 34],
     many: usize,
     g: Gathered,
 ) -> Gathered
-    requires { ⌜ (g .live + many < 18446744073709551616) × (g .lacks + 65536 < 18446744073709551616) ⌝ }
-    ensures { λ r. ⌜ (r ≡ gatherOne wanted count list entry many g) × (r .lacks ≤ g .lacks + 65535) ⌝ }
+    requires { ⌜ (list < 8) × (g .live + many < 18446744073709551616) × (g .lacks + 65536 < 18446744073709551616) ⌝ }
+    ensures { λ r. ⌜ (r ≡ gatherOne wanted count list (entryFrom (now (words .entry)) list) many g) × (r .lacks ≤ g .lacks + 65535) ⌝ }
 {
+    let k = rules::wide(list);
     let fault = g.fault;
-    let live = g.live + many;
-    let lacks = g.lacks + lack(entry.share, many);
-    let over = over_of(count, list, entry.limit, many, g.over);
-    if list == wanted {
+    let length = asked_length(wanted, list, many, g.length);
+    if many == 0 {
         return Gathered {
             fault,
-            live,
-            lacks,
-            over,
-            length: many,
+            live: g.live,
+            lacks: g.lacks + rules::wide(share_at(words, k)),
+            over: g.over,
+            length,
         };
     }
+    let lacks = g.lacks + lack(share_at(words, k), many);
+    let over = over_of(count, list, limit_at(words, k), many, g.over);
     Gathered {
         fault,
-        live,
+        live: g.live + many,
         lacks,
         over,
-        length: g.length,
+        length,
     }
 }
 
@@ -111,27 +139,21 @@ fn gathered_none(count: u16) -> Gathered
     }
 }
 
-// The walks along the first `count` lists, in number order, up to the first that fails. An entry is read field by field, as in
-// `books`.
-fn gather(links: &[u16], met: &mut [u8], count: u16, entries: [Entry; 8], wanted: u16) -> Gathered
+// The walks along the first `count` lists, in number order, up to the first that fails. What the walk does not need of a list is read
+// after it: the walk leaves few registers for it.
+fn gather(links: &[u16], met: &mut [u8], count: u16, words: &[u16; 34], wanted: u16) -> Gathered
     requires { ⌜ count ≤ 8 ⌝ }
-    ensures { λ r. ⌜ round r (now (met .exit)) ≡ gatherAll xor wanted count (now (links .entry)) 0 (take count entries) (now (met .entry)) (gatheredNone count) ⌝ }
+    ensures { λ r. ⌜ round r (now (met .exit)) ≡ gatherAll xor wanted count (now (links .entry)) 0 (take count (entriesFrom (now (words .entry)))) (now (met .entry)) (gatheredNone count) ⌝ }
 {
     let mut g = gathered_none(count);
     let mut list: u16 = 0;
     while list < count {
         let k = rules::wide(list);
-        let entry = Entry {
-            head: entries[k].head,
-            tail: entries[k].tail,
-            share: entries[k].share,
-            limit: entries[k].limit,
-        };
-        let walk = walks::walk::walk_live(links, met, entry);
-        if !walk.ok {
+        let walk = walks::walk::walk_live(links, met, head_at(words, k));
+        if !ends_well(walk, words, k) {
             return gather_fault(list, walk.length, g);
         }
-        g = gather_one(wanted, count, list, entry, walk.length, g);
+        g = gather_one(wanted, count, list, words, walk.length, g);
         list += 1;
     }
     g
@@ -260,38 +282,37 @@ fn find_idle(
 }
 
 // Rules 10 to 15, with the record of slots met.
-fn find_over(links: &[u16], values: &[u64], met: &mut [u8], book: Book, wanted: u16) -> Found
-    requires { ⌜ Fit xor (now links) (now values) × (now met ≡ nothingMet (length (now links))) × (book .lists ≤ 8) ⌝ }
-    ensures { λ r. ⌜ r ≡ poolFound xor wanted (now (links .entry)) (now (values .entry)) (take (book .lists) (book .entries)) (book .free) ⌝ }
+fn find_over(links: &[u16], values: &[u64], met: &mut [u8], words: &[u16; 34], wanted: u16) -> Found
+    requires { ⌜ Fit xor (now links) (now values) × (now met ≡ nothingMet (length (now links))) × (bookFrom (now words) .lists ≤ 8) ⌝ }
+    ensures { λ r. ⌜ r ≡ poolFound xor wanted (now (links .entry)) (now (values .entry)) (take (bookFrom (now (words .entry)) .lists) (entriesFrom (now (words .entry)))) (bookFrom (now (words .entry)) .free) ⌝ }
 {
     if !null_slot_zero(links, values) {
         return faulty(10, 0, 0);
     }
     // The null slot is not met. It is said here, so that the compiler does not ask again before each walk.
     met[0] = 0;
-    let entries = book.entries;
-    let free = book.free;
-    let g = gather(links, met, book.lists, entries, wanted);
+    let count = crate::words::lists_of(words);
+    let g = gather(links, met, count, words, wanted);
     let fault = g.fault;
     if fault.rule != 0 {
         return faulty(fault.rule, fault.list, fault.place);
     }
-    find_idle(links, values, met, book.lists, free, g)
+    find_idle(links, values, met, count, crate::words::free_of(words), g)
 }
 
 // The whole check, rule 9 first. The record may be longer than the pool. It is cut to the pool's size: a walk goes over no other.
-fn find(links: &[u16], values: &[u64], met: &mut [u8], book: Book, wanted: u16) -> Found
+fn find(links: &[u16], values: &[u64], met: &mut [u8], words: &[u16; 34], wanted: u16) -> Found
     requires { ⌜ Fit xor (now links) (now values) × (length (now links) ≤ length (now met)) × (now met ≡ nothingMet (length (now met))) ⌝ }
-    ensures { λ r. ⌜ r ≡ checkFound xor wanted (now (links .entry)) (now (values .entry)) (eight book) ⌝ }
+    ensures { λ r. ⌜ r ≡ checkFound xor wanted (now (links .entry)) (now (values .entry)) (eight (bookFrom (now (words .entry)))) ⌝ }
 {
-    if !rules::keeps_rules(book, links.len()) {
+    if !crate::book::keeps_rules(words, links.len()) {
         return faulty(9, 0, 0);
     }
-    find_over(links, values, &mut met[..links.len()], book, wanted)
+    find_over(links, values, &mut met[..links.len()], words, wanted)
 }
 
 // A refusal, with nothing found.
-pub fn refused(number: u16) -> Looked
+fn refused(number: u16) -> Looked
     ensures { λ r. ⌜ r ≡ refusedBy number ⌝ }
 {
     Looked {
@@ -301,14 +322,20 @@ pub fn refused(number: u16) -> Looked
 }
 
 // `look`, with a record that has a place for each slot, and nothing met.
-fn look_over(links: &[u16], values: &[u64], met: &mut [u8], book: Book, wanted: u16) -> Looked
+fn look_over(
+    links: &[u16],
+    values: &[u64],
+    met: &mut [u8],
+    words: &[u16; 34],
+    wanted: u16,
+) -> Looked
     requires { ⌜ (Size (length (now links)) → length (now links) ≤ length (now met)) × (now met ≡ nothingMet (length (now met))) ⌝ }
-    ensures { λ r. ⌜ r ≡ lookOf xor wanted (now (links .entry)) (now (values .entry)) (eight book) ⌝ }
+    ensures { λ r. ⌜ r ≡ lookOf xor wanted (now (links .entry)) (now (values .entry)) (eight (bookFrom (now (words .entry)))) ⌝ }
 {
     if !crate::sizes_fit(links.len(), values.len()) {
         return refused(1);
     }
-    let found = find(links, values, met, book, wanted);
+    let found = find(links, values, met, words, wanted);
     let fault = found.fault;
     if fault.rule != 0 {
         return refused(3);
@@ -320,29 +347,29 @@ fn look_over(links: &[u16], values: &[u64], met: &mut [u8], book: Book, wanted: 
 }
 
 // Up to 256 slots: the record is made here, one byte for each slot, and lent on.
-fn look_small(links: &[u16], values: &[u64], book: Book, wanted: u16) -> Looked
+fn look_small(links: &[u16], values: &[u64], words: &[u16; 34], wanted: u16) -> Looked
     requires { ⌜ length (now links) ≤ 256 ⌝ }
-    ensures { λ r. ⌜ r ≡ lookOf xor wanted (now (links .entry)) (now (values .entry)) (eight book) ⌝ }
+    ensures { λ r. ⌜ r ≡ lookOf xor wanted (now (links .entry)) (now (values .entry)) (eight (bookFrom (now (words .entry)))) ⌝ }
 {
     let mut met = [0u8; 256];
-    look_over(links, values, &mut met, book, wanted)
+    look_over(links, values, &mut met, words, wanted)
 }
 
 // The same for any pool. To clear this record costs as much as to walk along dozens of slots, so small pools have a smaller one.
 // It saves no stack: the two have one place in the frame.
-fn look_large(links: &[u16], values: &[u64], book: Book, wanted: u16) -> Looked
-    ensures { λ r. ⌜ r ≡ lookOf xor wanted (now (links .entry)) (now (values .entry)) (eight book) ⌝ }
+fn look_large(links: &[u16], values: &[u64], words: &[u16; 34], wanted: u16) -> Looked
+    ensures { λ r. ⌜ r ≡ lookOf xor wanted (now (links .entry)) (now (values .entry)) (eight (bookFrom (now (words .entry)))) ⌝ }
 {
     let mut met = [0u8; 4096];
-    look_over(links, values, &mut met, book, wanted)
+    look_over(links, values, &mut met, words, wanted)
 }
 
 // 1 where the sizes do not fit, 3 where the pool is not sound; else 0, and what the check found.
-pub fn look(links: &[u16], values: &[u64], book: Book, wanted: u16) -> Looked
-    ensures { λ r. ⌜ r ≡ lookOf xor wanted (now (links .entry)) (now (values .entry)) (eight book) ⌝ }
+pub fn look(links: &[u16], values: &[u64], words: &[u16; 34], wanted: u16) -> Looked
+    ensures { λ r. ⌜ r ≡ lookOf xor wanted (now (links .entry)) (now (values .entry)) (eight (bookFrom (now (words .entry)))) ⌝ }
 {
     if links.len() <= 256 {
-        return look_small(links, values, book, wanted);
+        return look_small(links, values, words, wanted);
     }
-    look_large(links, values, book, wanted)
+    look_large(links, values, words, wanted)
 }

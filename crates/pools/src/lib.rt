@@ -4,7 +4,9 @@ ghost use mathlib.Core.Bool.{_&&_};
 ghost use lib.Dec.{eqb};
 ghost use Rattle.books.specs.Test.{sizeFits};
 
+mod book;
 pub mod check;
+pub mod words;
 
 // Number 1 is given exactly where this is false.
 pub fn sizes_fit(links: usize, values: usize) -> bool

@@ -1,5 +1,5 @@
 -- A walk on its way, for the invariant of a loop that walks: the slots passed so far, and the path from here.
-use mathlib.Core.Path.{_≡_, refl, sym, ap, _∙_}
+use mathlib.Core.Path.{_≡_, refl, sym, ap, subst, _∙_}
 use mathlib.Core.Logic.{_≢_}
 use mathlib.Core.Bool.{Bool, true, false, not}
 use mathlib.Core.List.{List, [], _∷_, _++_, append-assoc, append-nil}
@@ -13,7 +13,7 @@ use Rattle.books.specs.Book.{nullSlot}
 use Rattle.books.proofs.Tests.{not-both}
 use Rattle.chains.specs.Chain.{lastOr}
 use Rattle.chains.proofs.Chain.{last-append}
-use Rattle.shapes.specs.Met.{isMetOf, markOf, unmarked, markAll, unmet}
+use Rattle.shapes.specs.Met.{HasPlace, isMetOf, markOf, unmarked, markAll, unmet}
 use Rattle.shapes.specs.Walk.{Path, passing, walkOn, walkable, walkFrom}
 use Rattle.shapes.proofs.Walks.{pass-on, walkable-both}
 use Rattle.shapes.proofs.Seen.{mark-length, unmet-mark, unmet-le, mark-met, mark-other, mark-comm, marked-length, met-past, met-place, unmark-mark}
@@ -102,15 +102,26 @@ pub record Guarded (onward : ℕ → ℕ → ℕ) (fits : ℕ → ℕ → Bool) 
   pub sized : size ≡ length met
   pub guard : real ≡ markOf met nullSlot
 
-pub guarded-start : (onward : ℕ → ℕ → ℕ) (fits : ℕ → ℕ → Bool) (size : ℕ) (start : List ℕ) (head : ℕ) → walkable size start ≡ true → Guarded onward fits size start head [] (markOf start nullSlot) head 0
-guarded-start onward fits size start head w =
-    let (e, n) = walkable-both size start w in
-    record { met = start; going = going-start onward fits size start head w; unseen = n; sized = e; guard = refl }
+-- the record that a walk is lent has a place for the null slot, and is the same again without its mark
+module _ (size : ℕ) (lent : List ℕ) (w : walkable size lent ≡ true) where
+  pub null-place : HasPlace lent nullSlot
+  null-place = met-place lent nullSlot (walkable-both size lent w .1)
 
--- the same walk, from a start that is the same
-pub guarded-from : {onward : ℕ → ℕ → ℕ} {fits : ℕ → ℕ → Bool} {size : ℕ} {start start′ : List ℕ} {head head′ : ℕ} {passed real : List ℕ} {slot many : ℕ}
-    → start ≡ start′ → head ≡ head′ → Guarded onward fits size start head passed real slot many → Guarded onward fits size start′ head′ passed real slot many
-guarded-from {onward} {fits} {size} {passed = passed} {real = real} {slot = slot} {many = many} s e g = rw (← s, ← e) g
+  unguarded : {real : List ℕ} → real ≡ markOf lent nullSlot → unmarked real ≡ lent
+  unguarded e = ap unmarked e ∙ unmark-mark lent (walkable-both size lent w .1)
+
+-- a walk begins once the null slot is marked
+pub guarded-start : (onward : ℕ → ℕ → ℕ) (fits : ℕ → ℕ → Bool) (size : ℕ) (lent : List ℕ) (head : ℕ) {real : List ℕ} → walkable size lent ≡ true → real ≡ markOf lent nullSlot
+    → Guarded onward fits size (unmarked real) head [] real head 0
+guarded-start onward fits size lent head {real} w e =
+    let (s, n) = walkable-both size lent w in
+    subst (λ start. Guarded onward fits size start head [] real head 0) (sym (unguarded size lent w e))
+    (record { met = lent; going = going-start onward fits size lent head w; unseen = n; sized = s; guard = e })
+
+-- the same walk, over the record as it was lent and from the same head
+pub guarded-from : {onward : ℕ → ℕ → ℕ} {fits : ℕ → ℕ → Bool} {size : ℕ} {lent real₀ : List ℕ} {head head′ : ℕ} {passed real : List ℕ} {slot many : ℕ} → walkable size lent ≡ true → real₀ ≡ markOf lent nullSlot → head ≡ head′
+    → Guarded onward fits size (unmarked real₀) head passed real slot many → Guarded onward fits size lent head′ passed real slot many
+guarded-from {onward} {fits} {size} {lent} {passed = passed} {real = real} {slot = slot} {many = many} w m e g = rw (← unguarded size lent w m, ← e) g
 
 -- and with a count that is the same
 pub guarded-counted : {onward : ℕ → ℕ → ℕ} {fits : ℕ → ℕ → Bool} {size : ℕ} {start : List ℕ} {head : ℕ} {passed real : List ℕ} {slot many many′ : ℕ}
@@ -130,7 +141,7 @@ module _ {onward : ℕ → ℕ → ℕ} {fits : ℕ → ℕ → Bool} {size : �
   guarded-length = ap length (g .guard) ∙ marked-length (g .met) nullSlot ∙ sym (g .sized)
 
   -- a slot that is not met has a link and a place in the record
-  pub guarded-place : isMetOf real slot ≡ false → (slot < size) × (slot < length real)
+  pub guarded-place : isMetOf real slot ≡ false → (slot < size) × HasPlace real slot
   guarded-place m = let h = met-place real slot m in (omega (arith, h, guarded-length), h)
 
   pub guarded-on : {real′ : List ℕ} {slot′ : ℕ} → isMetOf real slot ≡ false → fits (lastOr nullSlot passed) slot ≡ true
@@ -173,8 +184,8 @@ module _ {onward : ℕ → ℕ → ℕ} {fits : ℕ → ℕ → Bool} {size : �
       go (no n) (yes h) = rw (ne-eqb slot nullSlot n, ← (mark-other (g .met) nullSlot slot n), ← (g .guard), m)
       go (no n) (no h) = rw (ne-eqb slot nullSlot n, met-past (g .met) slot (omega (arith, g .sized)))
 
-  -- there are places enough to count by
-  pub guarded-some : 0 < length real
+  -- the null slot has a place there, and there are places enough to count by
+  pub guarded-some : HasPlace real nullSlot
   guarded-some = omega (arith, some, guarded-length, g .sized)
 
   pub guarded-room : isMetOf real slot ≡ false → many < size

@@ -13,7 +13,7 @@ use lib.Seq.{getD-set-same, getD-set-other, set-comm}
 use Rattle.books.specs.Book.{nullSlot}
 use Rattle.books.proofs.Tests.{not-both}
 use Rattle.chains.specs.Count.{hit}
-use Rattle.shapes.specs.Met.{isMetOf, markOf, unmarked, unmet, seen, markAll}
+use Rattle.shapes.specs.Met.{HasPlace, isMetOf, markOf, unmarked, unmet, seen, markAll}
 
 pub seen-le : (met : List ℕ) (y : ℕ) → seen met y ≤ 1
 seen-le met y = go (isMetOf met y)
@@ -100,7 +100,7 @@ pub met-past : (met : List ℕ) (x : ℕ) → length met ≤ x → isMetOf met x
 unfolding isMetOf
 met-past met x h = rw (List·getD-eq-default met 1 {n = x} h)
 
-pub met-place : (met : List ℕ) (x : ℕ) → isMetOf met x ≡ false → x < length met
+pub met-place : (met : List ℕ) (x : ℕ) → isMetOf met x ≡ false → HasPlace met x
 met-place met x m = go (decLt x (length met))
   where
     go : Dec (x < length met) → x < length met
@@ -114,7 +114,10 @@ unmark-mark [] m = not-both true refl m
 unmark-mark (zero ∷ met) m = refl
 unmark-mark (suc b ∷ met) m = not-both _ (met-first b met) m
 
--- marking slots keeps the record's length
+-- the record keeps its length then, and where slots are marked
+pub unmark-length : (met : List ℕ) → length (unmarked met) ≡ length met
+unmark-length met = length-set met nullSlot 0
+
 pub mark-length : (met xs : List ℕ) → length (markAll met xs) ≡ length met
 unfolding markOf
 mark-length met [] = refl

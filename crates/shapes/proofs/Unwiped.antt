@@ -6,11 +6,11 @@ use Prim.Native.Nat.{ℕ, _≤_, _<_}
 use native.Mathlib.Nat.{not-suc-le-zero}
 use native.Mathlib.Decide.{ℕ-discrete}
 use native.Mathlib.Omega.{arith}
-use lib.Bits.{bitOr, bitXor, or-add-and, and-le-l, and-le-r}
+use lib.Bits.{bitOr, bitXor}
 use lib.Dec.{eqb, ltb}
 use borrow.Author.Tests.{eq-eqb, ne-eqb, eqb-true, eqb-false, ltb-true, ltb-false}
 use Rattle.books.specs.Book.{nullSlot, wipeWord}
-use Rattle.books.proofs.Tests.{cond-ind}
+use Rattle.books.proofs.Tests.{cond-ind, or-none}
 use Rattle.chains.specs.Count.{count}
 use Rattle.chains.specs.Chain.{cell}
 use Rattle.chains.proofs.Count.{hit-other, count-first}
@@ -110,9 +110,6 @@ module _ (values xs : List ℕ) (z : count 0 xs ≡ 0) where
           record { inside = h; notWiped = k; lowest = λ y i j. r .slots y i j .1 }
 
 -- ---- the bits in which values differ from the wipe word, gathered into one
-
-or-none : (a b : ℕ) → bitOr a b ≡ 0 → (a ≡ 0) × (b ≡ 0)
-or-none a b h = (omega (arith, or-add-and a b, and-le-r a b), omega (arith, or-add-and a b, and-le-l a b))
 
 xor-none : (a b : ℕ) → bitXor a b ≡ 0 → a ≡ b
 xor-none a b h = sym (xor-cancel-r a b) ∙ ap (λ x. bitXor x b) h

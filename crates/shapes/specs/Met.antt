@@ -1,10 +1,14 @@
--- The record of slots met: one byte a slot, 0 where the slot was not met. A slot that the record has no place for counts as met.
+-- The record of slots met, to be read as a set of slots below N: one byte a slot, 0 where the slot was not met. A slot that the record has no place for counts as met.
 use mathlib.Core.Bool.{Bool, cond, not}
 use mathlib.Core.List.{List, [], _∷_}
-use Prim.Native.Nat.{ℕ, zero, suc}
+use Prim.Native.Nat.{ℕ, zero, suc, _<_}
 use lib.Dec.{eqb}
-use lib.ListN.{getD, set}
+use lib.ListN.{length, getD, set}
 use Rattle.books.specs.Book.{nullSlot}
+
+-- the record has a place for the slot
+abbrev pub HasPlace : List ℕ → ℕ → Type 0
+HasPlace met slot = slot < length met
 
 unfoldable pub isMetOf : List ℕ → ℕ → Bool
 isMetOf met slot = not (eqb (getD met slot 1) 0)

@@ -36,16 +36,17 @@ pub struct PopStep {
     pub free: Free,
 }
 
-// Whether all that was asked for was popped, and the list and the idle chain then.
-pub struct ClearStep {
-    pub done: bool,
+// What a push, a pop or a clear on one list gives back: the number, 0 for done, and the list and the idle chain then. A refusal leaves these two.
+pub struct ListChange {
+    pub number: u16,
     pub entry: Entry,
     pub free: Free,
 }
 
-// Whether the walk along a list came to its end at the list's tail, and how many slots it passed.
+// Whether the walk along a list came to the null slot, the last slot that it passed, 0 for none, and how many it passed.
 pub struct LiveWalk {
     pub ok: bool,
+    pub last: usize,
     pub length: usize,
 }
 
@@ -84,7 +85,7 @@ pub struct Found {
     pub free: usize,
 }
 
-// A number, and what the check found: nothing where the number is not 0. `look` gives 1, 3 or 0; a caller may refuse by more.
+// A number, and what the check found: nothing where the number is not 0. The number is 1, 3 or 0.
 pub struct Looked {
     pub refusal: Refusal,
     pub found: Found,

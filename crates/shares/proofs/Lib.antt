@@ -1,3 +1,5 @@
 -- What the proofs of the code of the ten calls share.
-pub mod Fill
+pub mod Fresh
+pub mod LaidOut
+pub mod OneList
 pub mod Reached

@@ -2,20 +2,22 @@
 use mathlib.Core.Path.{_≡_, refl, sym, ap, _∙_}
 use mathlib.Core.Logic.{_≢_}
 use mathlib.Core.List.{List, []}
+use mathlib.Core.Bool.{cond, _&&_}
 use Prim.Native.Nat.{ℕ, _<_}
 use native.Mathlib.Omega.{arith}
+use lib.Dec.{leb, eqb}
 use lib.ListN.{length}
 use Rattle.books.specs.declared.Book.{Book}
 use Rattle.books.specs.declared.Answer.{Answer}
 use Rattle.books.specs.declared.Popped.{Popped}
 use Rattle.books.specs.declared.Length.{Length}
 use Rattle.books.specs.declared.Read.{Read}
-use Rattle.books.specs.Book.{entryAt, AnyBook, bookOf}
-use Rattle.books.specs.Outcome.{Outcome, outcome}
+use Rattle.books.specs.Book.{entryAt, AnyBook, eight, bookOf, wordsOf}
+use Rattle.books.specs.Words.{bookFrom}
+use Rattle.books.proofs.Flat.{book-kept}
+use Rattle.books.specs.Outcome.{outcome}
 use Rattle.shapes.specs.declared.End.{End}
-use Rattle.shapes.specs.declared.PushStep.{PushStep}
-use Rattle.shapes.specs.declared.PopStep.{PopStep}
-use Rattle.shapes.specs.declared.ClearStep.{ClearStep}
+use Rattle.shapes.specs.declared.ListChange.{ListChange}
 use Rattle.shapes.specs.declared.Found.{Found}
 use Rattle.shapes.specs.declared.Looked.{Looked}
 use Rattle.shapes.specs.Ends.{nearOf}
@@ -23,13 +25,31 @@ use Rattle.shapes.specs.Changes.{withList}
 use Rattle.shapes.specs.Numbers.{Test, firstThat}
 use Rattle.shapes.specs.Tests.{pushOwnTests, popOwnTests, readOwnTests, readLeft, readOf}
 use Rattle.engines.specs.Engine.{Step}
-use Rattle.engines.specs.Reads.{countRead, bufferAfter, clearOn, clearLeft}
-use Rattle.engines.specs.Calls.{foundOf, notCalled, onListOf, lengthCall, pushCall, popCall, clearCall, readCall}
+use Rattle.engines.specs.Check.{lookOf}
+use Rattle.engines.specs.Reads.{countRead, bufferAfter}
+use Rattle.engines.specs.Calls.{foundOf, notCalled, stepped, onListOf, lengthCall, pushCall, popCall, clearCall, readCall}
+use Rattle.engines.specs.OnList.{OnList, onList, pushOn, popOn, putBack}
+use Rattle.engines.proofs.OnList.{push-on-list, pop-on-list}
 use Rattle.engines.proofs.Looking.{on-list-found, on-list-below, on-list-length, read-count, by-list, by-call, goes}
-use Rattle.xor.specs.Steps.{pushOf, popOf}
+use Rattle.xor.specs.Along.{clearOnList}
 use Rattle.xor.specs.Engine.{xor}
 use Rattle.xor.specs.Ten.{asAnswer, asPopped}
+use Rattle.xor.proofs.Along.{clear-found}
 use Rattle.xor.proofs.Lawful.{xor-lawful}
+
+-- the book that its words are
+pub words-book : {words : List ℕ} (book : Book) → length (book .entries) ≡ 8 → words ≡ wordsOf book → bookFrom words ≡ book
+words-book book h w = ap bookFrom w ∙ book-kept book h
+
+-- a look at the words of a book is a look at the book
+pub look-of-words : (links values : List ℕ) {words : List ℕ} (book : Book) (l : ℕ) {seen : Looked} → length (book .entries) ≡ 8 → words ≡ wordsOf book
+    → seen ≡ lookOf xor l links values (eight (bookFrom words)) → seen ≡ lookOf xor l links values (eight book)
+look-of-words links values book l h w e =
+    e ∙ ap (λ (b : Book). lookOf xor l links values (eight b)) (words-book book h w)
+
+-- the test of the list's number, with how many lists there are read from the words
+pub early-in-words : (number l : ℕ) {early lists lists′ : ℕ} → lists ≡ lists′ → early ≡ cond (eqb number 0 && leb lists l) 4 number → early ≡ cond (eqb number 0 && leb lists′ l) 4 number
+early-in-words number l e n = rw e at n
 
 -- the answer of a call that changes the book, and of a pop
 abbrev answer : ℕ → Book → Answer
@@ -93,57 +113,33 @@ module _ (links values : List ℕ) (b : AnyBook) (l : ℕ) (seen : Looked) (e : 
     pub short : seen .found .length < 4096
     short = omega (arith, ap (λ (f : Found). f .length) found, on-list-length xor links values b l xor-lawful passes)
 
-    pub length-went : _≡_ {A = Length} (record { refusal = seen .refusal; length = seen .found .length }) (lengthCall xor links values b l)
+    pub length-went : _≡_ {A = Length} (record { refusal = record { number = 0 }; length = seen .found .length }) (lengthCall xor links values b l)
     unfolding lengthCall
-    length-went = rw (z, found) (sym (goes xor links values b l [] _ _ passes refl))
+    length-went = rw found (sym (goes xor links values b l [] _ _ passes refl))
 
-    pub clear-went : {k : ℕ} {r : ClearStep} {newLinks newValues : List ℕ} {after : Book} → k ≡ l
-        → clearLeft r newLinks newValues ≡ clearOn xor (seen .found .length) links values (entryAt (b .entries) k) (b .free)
-        → after ≡ bookOf (withList b k (r .entry) (r .free))
-        → outcome (answer 0 after) newLinks newValues ≡ asAnswer (clearCall xor links values b l)
+    -- a push, a pop and a clear on the list, put back into the book
+    module _ {k : ℕ} (p : k ≡ l) {r : ListChange} {newLinks newValues : List ℕ} {after : Book} (h : after ≡ bookOf (withList b k (r .entry) (r .free))) (end : End) where
+      pub push-put : (value : ℕ)
+          → onList r 0 newLinks newValues ≡ pushOn xor links values (entryAt (b .entries) k) (b .free) (seen .found) end value
+          → outcome (answer (r .number) after) newLinks newValues ≡ asAnswer (pushCall xor links values b l end value)
+      push-put value q =
+          rw (h, p) (ap (λ (x : OnList xor). asAnswer (putBack b l x)) (rw (p, found) at q) ∙ ap asAnswer (sym (push-on-list xor links values b l passes end value)))
+
+      pub pop-put : {value : ℕ} {whole : Popped} → whole ≡ popped (r .number) value after
+          → onList r value newLinks newValues ≡ popOn xor links values (entryAt (b .entries) k) (b .free) (seen .found) end
+          → outcome whole newLinks newValues ≡ asPopped (popCall xor links values b l end)
+      pop-put w q =
+          rw (w, h, p) (ap (λ (x : OnList xor). asPopped (putBack b l x)) (rw (p, found) at q) ∙ ap asPopped (sym (pop-on-list xor links values b l passes end)))
+
+    pub clear-put : {k : ℕ} → k ≡ l → {r : ListChange} {newLinks newValues : List ℕ} {after : Book} → after ≡ bookOf (withList b k (r .entry) (r .free))
+        → onList r 0 newLinks newValues ≡ clearOnList links values (entryAt (b .entries) k) (b .free) (seen .found)
+        → outcome (answer (r .number) after) newLinks newValues ≡ asAnswer (clearCall xor links values b l)
     unfolding clearCall
-    clear-went p q h =
+    clear-put p h q =
         rw (h, p)
-        (ap (λ (r : Step (List ℕ)). outcome (answer 0 (bookOf (withList b l (r .entry) (r .free)))) (r .links) (r .values)) (rw (p, found) at q)
+        (ap (λ (x : OnList xor). asAnswer (putBack b l x)) (rw (p, found) at q)
+        ∙ ap (λ (x : Step (List ℕ)). asAnswer (stepped xor links values b l 0 x)) (sym (clear-found links values b l passes))
         ∙ ap asAnswer (sym (goes xor links values b l [] _ (notCalled xor links values b) passes refl)))
-
-    -- a push's own tests
-    module _ (k : ℕ) (p : k ≡ l) (number : ℕ) (t : number ≡ firstThat (pushOwn (seen .found) k)) where
-      own-push : number ≡ firstThat (pushOwn (foundOf xor links values b l) l)
-      own-push = t ∙ ap (λ (f : Found). firstThat (pushOwn f k)) found ∙ ap (λ (n : ℕ). firstThat (pushOwn (foundOf xor links values b l) n)) p
-
-      pub push-full : number ≢ 0 → (end : End) (value : ℕ) → outcome (answer number (bookOf b)) links values ≡ asAnswer (pushCall xor links values b l end value)
-      unfolding pushCall
-      push-full d end value = rw own-push (ap asAnswer (sym (by-call xor links values b l (pushOwn (foundOf xor links values b l) l) _ (notCalled xor links values b) passes (rw own-push at d))))
-
-      pub push-went : number ≡ 0 → (end : End) (value : ℕ) {r : PushStep} {newLinks newValues : List ℕ} {after : Book}
-          → outcome r newLinks newValues ≡ pushOf end links values (entryAt (b .entries) k) (b .free) value
-          → after ≡ bookOf (withList b k (r .entry) (r .free))
-          → outcome (answer 0 after) newLinks newValues ≡ asAnswer (pushCall xor links values b l end value)
-      unfolding pushCall
-      push-went n end value q h =
-          rw (h, p)
-          (ap (λ (r : Outcome PushStep). outcome (answer 0 (bookOf (withList b l (r .answer .entry) (r .answer .free)))) (r .links) (r .values)) (rw p at q)
-          ∙ ap asAnswer (sym (goes xor links values b l (pushOwn (foundOf xor links values b l) l) _ (notCalled xor links values b) passes (sym own-push ∙ n))))
-
-    -- a pop's
-    module _ (number : ℕ) (t : number ≡ firstThat (popOwn (seen .found))) where
-      own-pop : number ≡ firstThat (popOwn (foundOf xor links values b l))
-      own-pop = t ∙ ap (λ (f : Found). firstThat (popOwn f)) found
-
-      pub pop-empty : number ≢ 0 → (end : End) {r : Popped} → r ≡ popped number 0 (bookOf b) → outcome r links values ≡ asPopped (popCall xor links values b l end)
-      unfolding popCall
-      pop-empty d end h = rw (h, own-pop) (ap asPopped (sym (by-call xor links values b l (popOwn (foundOf xor links values b l)) _ (notCalled xor links values b) passes (rw own-pop at d))))
-
-      pub pop-went : number ≡ 0 → (end : End) {k : ℕ} {r : PopStep} {newLinks newValues : List ℕ} {after : Book} → k ≡ l
-          → outcome r newLinks newValues ≡ popOf end links values (entryAt (b .entries) k) (b .free)
-          → after ≡ bookOf (withList b k (r .entry) (r .free))
-          → outcome (popped 0 (r .value) after) newLinks newValues ≡ asPopped (popCall xor links values b l end)
-      unfolding popCall
-      pop-went n end p q h =
-          rw (h, p)
-          (ap (λ (r : Outcome PopStep). outcome (popped 0 (r .answer .value) (bookOf (withList b l (r .answer .entry) (r .answer .free)))) (r .links) (r .values)) (rw p at q)
-          ∙ ap asPopped (sym (goes xor links values b l (popOwn (foundOf xor links values b l)) _ (notCalled xor links values b) passes (sym own-pop ∙ n))))
 
     -- a read's
     module _ (end : End) (buffer : List ℕ) (at : ℕ) (number : ℕ) (t : number ≡ firstThat (readOwn buffer at (seen .found))) where

@@ -2,12 +2,21 @@
 use books::Book;
 use books::Refusal;
 ghost use mathlib.Core.Path.{_≡_};
+ghost use Rattle.books.specs.Words.{bookFrom};
 ghost use Rattle.xor.specs.Ten.{checkOf};
 
 // Is the pool sound? 0 where it is; 1 where the sizes do not fit, 3 where it is not sound. Neither the pool nor the book changes.
 pub fn check(links: &[u16], values: &[u64], book: Book) -> Refusal
     ensures { λ r. ⌜ r ≡ checkOf (now (links .entry)) (now (values .entry)) book ⌝ }
 {
-    let seen = pools::check::look(links, values, book, 0);
+    let words = pools::words::words_of(book);
+    check_words(links, values, &words)
+}
+
+// The same for a book that lies in words.
+pub fn check_words(links: &[u16], values: &[u64], words: &[u16; 34]) -> Refusal
+    ensures { λ r. ⌜ r ≡ checkOf (now (links .entry)) (now (values .entry)) (bookFrom (now (words .entry))) ⌝ }
+{
+    let seen = pools::check::look(links, values, words, 0);
     seen.refusal
 }

@@ -2,6 +2,8 @@
 use books::Answer;
 use books::Book;
 use books::Refusal;
+use pools::words::with_list;
+use pools::words::words_of;
 ghost use mathlib.Core.Path.{_≡_};
 ghost use Rattle.books.specs.Outcome.{outcome};
 ghost use Rattle.xor.specs.Ten.{clearOf};
@@ -10,18 +12,25 @@ ghost use Rattle.xor.specs.Ten.{clearOf};
 pub fn clear(links: &mut [u16], values: &mut [u64], book: Book, list: u16) -> Answer
     ensures { λ r. ⌜ outcome r (now (links .exit)) (now (values .exit)) ≡ clearOf (now (links .entry)) (now (values .entry)) book list ⌝ }
 {
-    let seen = crate::refusals::on_list(links, values, book, list);
+    let words = words_of(book);
+    let seen = pools::check::look(links, values, &words, list);
     let refusal = seen.refusal;
-    if refusal.number != 0 {
-        return Answer { refusal, book };
+    let early = crate::refusals::list_number(refusal.number, book.lists, list);
+    if early != 0 {
+        return Answer {
+            refusal: Refusal { number: early },
+            book,
+        };
     }
     let found = seen.found;
     let k = rules::wide(list);
     let entry = book.entries[k];
     let free = book.free;
-    let gone = walks::clear::clear(links, values, entry, free, found.length);
+    let gone = crate::core::clear(links, values, entry, free, found);
     Answer {
-        refusal: Refusal { number: 0 },
-        book: crate::ends::with_list(book, k, gone.entry, gone.free),
+        refusal: Refusal {
+            number: gone.number,
+        },
+        book: with_list(book, k, gone.entry, gone.free),
     }
 }

@@ -1,6 +1,7 @@
 // Layer 4: the ten calls. Setup makes a sound pool, and nine calls work on it.
 pub mod check;
 pub mod clear;
+pub mod core;
 pub mod ends;
 pub mod reads;
 pub mod refusals;

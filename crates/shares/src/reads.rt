@@ -1,11 +1,16 @@
 // Length, read forward and read backward, which change neither the pool nor the book.
+use crate::refusals::list_number;
 use books::Book;
 use books::Length;
 use books::Read;
 use books::Refusal;
+use pools::words::entry_of;
+use pools::words::lists_of;
+use pools::words::words_of;
 use shapes::End;
 ghost use mathlib.Core.Path.{_≡_};
 ghost use Rattle.books.specs.Book.{eight};
+ghost use Rattle.books.specs.Words.{bookFrom};
 ghost use Rattle.shapes.specs.Tests.{readLeft, readOf};
 ghost use Rattle.engines.specs.Calls.{readCall};
 ghost use Rattle.xor.specs.Engine.{xor};
@@ -15,17 +20,8 @@ ghost use Rattle.xor.specs.Ten.{lengthOf, readForwardOf, readBackwardOf};
 pub fn length(links: &[u16], values: &[u64], book: Book, list: u16) -> Length
     ensures { λ r. ⌜ r ≡ lengthOf (now (links .entry)) (now (values .entry)) book list ⌝ }
 {
-    let seen = crate::refusals::on_list(links, values, book, list);
-    let refusal = seen.refusal;
-    let found = seen.found;
-    if refusal.number != 0 {
-        return Length { refusal, length: 0 };
-    }
-    let many = found.length as u16;
-    Length {
-        refusal,
-        length: many,
-    }
+    let words = words_of(book);
+    length_words(links, values, &words, list)
 }
 
 // The list's values from the front on, into `buffer` from place `at` on. Refused by 1, 3, 4 or 8, with count 0, and the buffer as it was.
@@ -39,7 +35,8 @@ pub fn read_forward(
 ) -> Read
     ensures { λ r. ⌜ readLeft r (now (buffer .exit)) ≡ readForwardOf (now (links .entry)) (now (values .entry)) book list (now (buffer .entry)) at ⌝ }
 {
-    read(links, values, End::Front, book, list, buffer, at)
+    let words = words_of(book);
+    read_words(links, values, End::Front, &words, list, buffer, at)
 }
 
 // The same from the back on.
@@ -53,33 +50,56 @@ pub fn read_backward(
 ) -> Read
     ensures { λ r. ⌜ readLeft r (now (buffer .exit)) ≡ readBackwardOf (now (links .entry)) (now (values .entry)) book list (now (buffer .entry)) at ⌝ }
 {
-    read(links, values, End::Back, book, list, buffer, at)
+    let words = words_of(book);
+    read_words(links, values, End::Back, &words, list, buffer, at)
 }
 
-fn read(
+// Length for a book that lies in words.
+pub fn length_words(links: &[u16], values: &[u64], words: &[u16; 34], list: u16) -> Length
+    ensures { λ r. ⌜ r ≡ lengthOf (now (links .entry)) (now (values .entry)) (bookFrom (now (words .entry))) list ⌝ }
+{
+    let seen = pools::check::look(links, values, words, list);
+    let refusal = seen.refusal;
+    let early = list_number(refusal.number, lists_of(words), list);
+    if early != 0 {
+        return Length {
+            refusal: Refusal { number: early },
+            length: 0,
+        };
+    }
+    let found = seen.found;
+    let many = found.length as u16;
+    Length {
+        refusal: Refusal { number: 0 },
+        length: many,
+    }
+}
+
+// A read for a book that lies in words, from the front on or from the back.
+pub fn read_words(
     links: &[u16],
     values: &[u64],
     end: End,
-    book: Book,
+    words: &[u16; 34],
     list: u16,
     buffer: &mut [u64],
     at: usize,
 ) -> Read
-    ensures { λ r. ⌜ readLeft r (now (buffer .exit)) ≡ readCall xor (now (links .entry)) (now (values .entry)) (eight book) list end (now (buffer .entry)) at ⌝ }
+    ensures { λ r. ⌜ readLeft r (now (buffer .exit)) ≡ readCall xor (now (links .entry)) (now (values .entry)) (eight (bookFrom (now (words .entry)))) list end (now (buffer .entry)) at ⌝ }
 {
-    let seen = crate::refusals::on_list(links, values, book, list);
+    let seen = pools::check::look(links, values, words, list);
     let refusal = seen.refusal;
-    if refusal.number != 0 {
-        return refused(refusal.number);
+    let early = list_number(refusal.number, lists_of(words), list);
+    if early != 0 {
+        return refused(early);
     }
     let found = seen.found;
     let number = crate::refusals::read_number(found.length, buffer.len(), at);
     if number != 0 {
         return refused(number);
     }
-    let k = rules::wide(list);
-    let entry = book.entries[k];
-    let count = walks::reads::read(links, values, lists::near_of(end, entry), buffer, at);
+    let start = lists::near_of(end, entry_of(words, list));
+    let count = walks::reads::read(links, values, start, buffer, at);
     let many = count as u16;
     Read {
         refusal: Refusal { number: 0 },

@@ -1,18 +1,13 @@
 // Which number a call on a list is refused by, in 01's order: 1, 3 and 4 first, then what the call itself asks for.
-use books::Book;
 use books::Entry;
-use shapes::Looked;
 ghost use mathlib.Core.Path.{_≡_};
 ghost use mathlib.Core.Bool.{cond, _&&_};
 ghost use lib.Dec.{leb, eqb};
-ghost use Rattle.books.specs.Book.{eight};
 ghost use Rattle.shapes.specs.Numbers.{firstThat};
 ghost use Rattle.shapes.specs.Tests.{pushOwnTests, popOwnTests, readOwnTests};
-ghost use Rattle.engines.specs.Calls.{onListOf};
-ghost use Rattle.xor.specs.Engine.{xor};
 
 // The number after the check and the test of the list: 1 or 3 where the check gave it; else 4 where there is no such list; else 0.
-pub(crate) fn list_number(number: u16, lists: u16, list: u16) -> u16
+pub fn list_number(number: u16, lists: u16, list: u16) -> u16
     ensures { λ r. ⌜ r ≡ cond (eqb number 0 && leb lists list) 4 number ⌝ }
 {
     if number == 0 {
@@ -21,19 +16,6 @@ pub(crate) fn list_number(number: u16, lists: u16, list: u16) -> u16
         }
     }
     number
-}
-
-// 1, 3 and 4, which every call on a list tests; else 0, and what the check found.
-pub(crate) fn on_list(links: &[u16], values: &[u64], book: Book, list: u16) -> Looked
-    ensures { λ r. ⌜ r ≡ onListOf xor (now (links .entry)) (now (values .entry)) (eight book) list ⌝ }
-{
-    let seen = pools::check::look(links, values, book, list);
-    let refusal = seen.refusal;
-    let number = list_number(refusal.number, book.lists, list);
-    if number != 0 {
-        return pools::check::refused(number);
-    }
-    seen
 }
 
 // 6 or 7 for a push on a list that has `many` slots; else 0.

@@ -5,12 +5,14 @@ use books::Entry;
 use books::Free;
 use books::Refusal;
 ghost use mathlib.Core.Path.{_≡_};
-ghost use Prim.Native.Nat.{_≤_, _<_};
-ghost use lib.ListN.{length};
+ghost use Prim.Native.Nat.{_≤_};
+ghost use lib.ListN.{length, take, drop};
 ghost use Rattle.books.specs.Tabulate.{tabulate};
 ghost use Rattle.books.specs.Outcome.{outcome};
+ghost use Rattle.books.specs.Test.{gather, allZero, keepsRules};
 ghost use Rattle.engines.specs.Calls.{freshBookOf};
-ghost use Rattle.xor.specs.Engine.{freshLink};
+ghost use Rattle.engines.specs.OnList.{laidOut, layOutOf};
+ghost use Rattle.xor.specs.Engine.{xor, freshLink};
 ghost use Rattle.xor.specs.Ten.{setupOf};
 ghost use Rattle.shapes.specs.Setup.{freshValue, freshEntry};
 ghost use Rattle.books.specs.Book.{mostLists, zeroBook, bookOf};
@@ -26,19 +28,90 @@ pub fn setup(
 ) -> Answer
     ensures { λ r. ⌜ outcome r (now (links .exit)) (now (values .exit)) ≡ setupOf (now (links .entry)) (now (values .entry)) lists shares limits ⌝ }
 {
-    if !pools::sizes_fit(links.len(), values.len()) {
-        return refused(1);
+    let number = lay_out(links, values, lists, &shares, &limits);
+    if number != 0 {
+        return refused(number);
     }
-    let book = fresh_book(lists, shares, limits);
-    if !rules::keeps_rules(book, links.len()) {
-        return refused(2);
+    Answer {
+        refusal: Refusal { number },
+        book: fresh_book(lists, shares, limits),
+    }
+}
+
+// Setup but for the book: the number, and where it is 0 the cells of a fresh pool.
+pub fn lay_out(
+    links: &mut [u16],
+    values: &mut [u64],
+    lists: u16,
+    shares: &[u16; 8],
+    limits: &[u16; 8],
+) -> u16
+    ensures { λ r. ⌜ laidOut r (now (links .exit)) (now (values .exit)) ≡ layOutOf xor mostLists (now (links .entry)) (now (values .entry)) lists (now (shares .entry)) (now (limits .entry)) ⌝ }
+{
+    if !pools::sizes_fit(links.len(), values.len()) {
+        return 1;
+    }
+    if !may_set_up(lists, shares, limits, links.len()) {
+        return 2;
     }
     fresh_links(links);
     fresh_values(values);
-    Answer {
-        refusal: Refusal { number: 0 },
-        book,
+    0
+}
+
+// Would the book of such lists keep the book rules in a pool of so many slots?
+fn may_set_up(lists: u16, shares: &[u16; 8], limits: &[u16; 8], size: usize) -> bool
+    ensures { λ r. ⌜ r ≡ keepsRules size (freshBookOf mostLists lists (now (shares .entry)) (now (limits .entry))) ⌝ }
+{
+    if lists == 0 {
+        return false;
     }
+    if 8 < lists {
+        return false;
+    }
+    let count = lists as usize;
+    if !shares_fit(shares, limits, count, size) {
+        return false;
+    }
+    rest_zero(shares, limits, count)
+}
+
+// Are the first `count` shares within their limits and the limits within the pool, and do the shares add up to less than its size?
+fn shares_fit(shares: &[u16; 8], limits: &[u16; 8], count: usize, size: usize) -> bool
+    requires { ⌜ count ≤ 8 ⌝ }
+    ensures { λ r. ⌜ r ≡ gather size (take count (tabulate mostLists (freshEntry (now (shares .entry)) (now (limits .entry))))) 0 ⌝ }
+{
+    let mut sum: usize = 0;
+    let mut k: usize = 0;
+    while k < count {
+        let share = rules::wide(shares[k]);
+        let limit = rules::wide(limits[k]);
+        if limit < share {
+            return false;
+        }
+        if size <= limit {
+            return false;
+        }
+        sum += share;
+        k += 1;
+    }
+    sum < size
+}
+
+// Are all shares and limits from `from` on zero?
+fn rest_zero(shares: &[u16; 8], limits: &[u16; 8], from: usize) -> bool
+    requires { ⌜ from ≤ 8 ⌝ }
+    ensures { λ r. ⌜ r ≡ allZero (drop from (tabulate mostLists (freshEntry (now (shares .entry)) (now (limits .entry))))) ⌝ }
+{
+    let mut k = from;
+    while k < 8 {
+        let both = shares[k] | limits[k];
+        if both != 0 {
+            return false;
+        }
+        k += 1;
+    }
+    true
 }
 
 fn refused(number: u16) -> Answer
@@ -74,47 +147,31 @@ fn fresh_entries(shares: [u16; 8], limits: [u16; 8]) -> [Entry; 8]
     entries
 }
 
-// The slot after `slot`, or 0 for the null slot and for the last.
-fn fresh_link(size: usize, slot: usize) -> u16
-    requires { ⌜ (slot < size) × (size ≤ 4096) ⌝ }
-    ensures { λ r. ⌜ r ≡ freshLink size slot ⌝ }
-{
-    if 0 < slot {
-        if slot + 1 < size {
-            return (slot + 1) as u16;
-        }
-    }
-    0
-}
-
+// The slot after each, and 0 for the null slot and for the last. The loop has no test in it, so that the compiler stores several at once.
 fn fresh_links(links: &mut [u16])
-    requires { ⌜ length (now links) ≤ 4096 ⌝ }
+    requires { ⌜ (2 ≤ length (now links)) × (length (now links) ≤ 4096) ⌝ }
     ensures { λ _. ⌜ now (links .exit) ≡ tabulate (length (now (links .entry))) (freshLink (length (now (links .entry)))) ⌝ }
 {
-    let size = links.len();
-    let mut slot: usize = 0;
-    while slot < size {
-        links[slot] = fresh_link(size, slot);
+    let last = links.len() - 1;
+    links[0] = Book::NULL;
+    let mut slot: usize = 1;
+    while slot < last {
+        links[slot] = (slot + 1) as u16;
         slot += 1;
     }
+    links[last] = Book::NULL;
 }
 
-fn fresh_value(slot: usize) -> u64
-    ensures { λ r. ⌜ r ≡ freshValue slot ⌝ }
-{
-    if slot == 0 {
-        return 0;
-    }
-    Book::WIPE
-}
-
+// The null slot's value is 0, every other one is the wipe word.
 fn fresh_values(values: &mut [u64])
+    requires { ⌜ 2 ≤ length (now values) ⌝ }
     ensures { λ _. ⌜ now (values .exit) ≡ tabulate (length (now (values .entry))) freshValue ⌝ }
 {
     let size = values.len();
-    let mut slot: usize = 0;
+    values[0] = 0;
+    let mut slot: usize = 1;
     while slot < size {
-        values[slot] = fresh_value(slot);
+        values[slot] = Book::WIPE;
         slot += 1;
     }
 }

@@ -1,7 +1,4 @@
 // Layer 1: a slot is taken from the idle chain, or released to it and wiped (000: `Node`, `PPtr::new`, `into_inner`).
-pub mod met;
-pub mod walk;
-
 use books::Book;
 use books::Free;
 use shapes::Released;

@@ -1,16 +1,19 @@
 -- Why `fill` and `read` give what their models say: what holds after so many values, and the filled part in the whole buffer.
 use mathlib.Core.Path.{_≡_, refl, sym, ap, _∙_}
+use mathlib.Core.Logic.{_≢_, _⊎_, inl, inr}
+use mathlib.Core.Bool.{true, false, not, _&&_}
 use mathlib.Core.List.{List, [], _∷_, _++_, append-assoc, append-nil}
 use Prim.Native.Nat.{ℕ, zero, suc, _+_, _-_, _≤_, _<_}
 use native.Mathlib.Nat.{sub-zero, le-of-eq}
 use native.Mathlib.Numerals.{add-one}
 use native.Mathlib.Omega.{arith}
 use lib.Bits.{bitXor}
+use lib.Dec.{ltb, eqb}
 use lib.ListN.{length, take, drop, set, length-set, take-append-drop, length-drop, drop-of-length-le}
 use lib.Seq.{take-suc-set, drop-set-lt, drop-drop, length-take-le, take-all}
-use borrow.Author.Tests.{le-leb}
+use borrow.Author.Tests.{eqb-false, ne-eqb, ltb-true, lt-ltb, le-leb, not-true}
 use Rattle.books.specs.Book.{nullSlot}
-use Rattle.books.proofs.Tests.{cond-ind}
+use Rattle.books.proofs.Tests.{cond-ind, and-both, not-both}
 use Rattle.chains.specs.Chain.{cell}
 use Rattle.xor.specs.Slot.{InPool, inPool}
 use Rattle.shapes.specs.declared.End.the-variants.{Front}
@@ -32,7 +35,7 @@ module _ (links values : List ℕ) (before slot : ℕ) where
   no-room = refl
 
   -- what is no slot ends the chain
-  pub no-slot : (most : ℕ) → (InPool links values slot → ⊥) → along links values most before slot ≡ []
+  no-slot : (most : ℕ) → (InPool links values slot → ⊥) → along links values most before slot ≡ []
   unfolding valuesAlong isSlot inPool
   no-slot zero n = refl
   no-slot (suc most) n = cond-ind (λ vs. vs ≡ []) (isSlot (length links) (length values) slot) (λ e. absurd (n (in-pool links values slot .0 e))) (λ e. refl)
@@ -41,6 +44,31 @@ module _ (links values : List ℕ) (before slot : ℕ) where
   one-more : (most : ℕ) → InPool links values slot → along links values (suc most) before slot ≡ cell values slot ∷ along links values most slot (bitXor (cell links slot) before)
   unfolding valuesAlong isSlot inPool
   one-more most p = rw (in-pool links values slot .1 p)
+
+-- ---- a slot of a pool with so many links and values, where that is the lesser of both
+
+abbrev pub Lesser : ℕ → List ℕ → List ℕ → Type 0
+Lesser size links values = (size ≤ length links) × (size ≤ length values) × ((size ≡ length links) ⊎ (size ≡ length values))
+
+module _ (links values : List ℕ) {size : ℕ} (lesser : Lesser size links values) (slot : ℕ) where
+  pub small-slot : isSlot size size slot ≡ true → InPool links values slot
+  unfolding isSlot
+  small-slot e =
+      let (n, b) = and-both (not (eqb slot nullSlot)) (ltb slot size && ltb slot size) e in
+      let h : slot < size = ltb-true slot size (and-both (ltb slot size) (ltb slot size) b .0) in
+      let z : slot ≢ nullSlot = eqb-false slot nullSlot (not-true (eqb slot nullSlot) n) in
+      record { notNull = omega arith; hasLink = omega (arith, lesser .0); hasValue = omega (arith, lesser .1) }
+
+  no-small-slot : isSlot size size slot ≡ false → InPool links values slot → ⊥
+  unfolding isSlot
+  no-small-slot e p = not-both (isSlot size size slot) (rw (ne-eqb slot nullSlot (λ z. omega (arith, p .notNull)), lt-ltb slot size below)) e
+    where
+      both : (size ≡ length links) ⊎ (size ≡ length values) → slot < size
+      both (inl q) = omega (arith, p .hasLink)
+      both (inr q) = omega (arith, p .hasValue)
+
+      below : slot < size
+      below = both (lesser .2)
 
 -- ---- the loop of `fill`
 
@@ -56,16 +84,18 @@ fill-begins links values start buffer =
     record { room = omega arith; size = refl; rest = refl; sofar = ap (λ k. along links values k nullSlot start) (sub-zero (length buffer)) }
 
 module _ {links values : List ℕ} {start : ℕ} {buffer out : List ℕ} {before slot n : ℕ} (F : FillingPart links values start buffer out before slot n) where
-  pub fill-ends : along links values (length buffer - n) before slot ≡ [] → Filled (along links values (length buffer) nullSlot start) buffer n out
+  fill-ends : along links values (length buffer - n) before slot ≡ [] → Filled (along links values (length buffer) nullSlot start) buffer n out
   fill-ends e =
       let vs : along links values (length buffer) nullSlot start ≡ take n out = sym (F .sofar) ∙ ap (λ zs. take n out ++ zs) e ∙ append-nil (take n out) in
       let k : length (take n out) ≡ n = length-take-le n out (F .room) in
       rw vs (record { number = sym k; places = sym (take-append-drop n out) ∙ ap (λ zs. take n out ++ zs) (F .rest ∙ ap (λ m. drop m buffer) (sym k)) })
 
-  pub fill-full : length out ≤ n → along links values (length buffer - n) before slot ≡ []
-  fill-full h =
-      let z : length buffer - n ≡ 0 = omega (arith, F .size) in
-      ap (λ k. along links values k before slot) z ∙ no-room links values before slot
+  -- there is no place left, or the number is no slot
+  pub fill-full : length out ≤ n → Filled (along links values (length buffer) nullSlot start) buffer n out
+  fill-full h = let z : length buffer - n ≡ 0 = omega (arith, F .size) in fill-ends (ap (λ k. along links values k before slot) z ∙ no-room links values before slot)
+
+  pub fill-stops : {size : ℕ} → Lesser size links values → isSlot size size slot ≡ false → Filled (along links values (length buffer) nullSlot start) buffer n out
+  fill-stops l e = fill-ends (no-slot links values before slot (length buffer - n) (no-small-slot links values l slot e))
 
   pub fill-goes-on : n < length out → InPool links values slot
       → FillingPart links values start buffer (set out n (cell values slot)) slot (bitXor (cell links slot) before) (n + 1)
@@ -84,6 +114,10 @@ module _ {links values : List ℕ} {start : ℕ} {buffer out : List ℕ} {before
     where
       more : List ℕ
       more = along links values (length buffer - (n + 1)) slot (bitXor (cell links slot) before)
+
+-- with a count that is the same
+pub fill-counted : {links values : List ℕ} {start : ℕ} {buffer out : List ℕ} {before slot n m : ℕ} → n ≡ m → FillingPart links values start buffer out before slot n → FillingPart links values start buffer out before slot m
+fill-counted e F = rw (← e) F
 
 -- ---- the whole buffer
 

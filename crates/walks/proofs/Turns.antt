@@ -1,35 +1,44 @@
--- One turn of the loop that empties a list.
-use mathlib.Core.Path.{_≡_, refl, ap, _∙_}
-use mathlib.Core.Bool.{true, false}
+-- The turns of the loop that empties a list.
+use mathlib.Core.Path.{_≡_, refl}
+use mathlib.Core.Logic.{_⊎_, inl, inr}
+use mathlib.Core.Bool.{and-false}
 use mathlib.Core.List.{List}
 use Prim.Native.Nat.{ℕ, zero, suc, _-_, _≤_, _<_}
 use native.Mathlib.Nat.{not-suc-le-zero}
 use native.Mathlib.Omega.{arith}
+use lib.Bits.{bitXor}
+use lib.ListN.{length, set}
+use borrow.Author.Tests.{lt-ltb, le-ltb}
+use Rattle.books.specs.Book.{wipeWord}
+use Rattle.books.specs.Outcome.{Outcome, outcome}
 use Rattle.books.specs.declared.Free.{Free}
-use Rattle.books.specs.declared.Entry.{Entry}
-use Rattle.books.specs.Outcome.{outcome}
-use Rattle.shapes.specs.declared.End.the-variants.{Front}
-use Rattle.shapes.specs.declared.PopStep.{PopStep}
-use Rattle.engines.specs.Reads.{clearOn, clearLeft}
-use Rattle.xor.specs.Steps.{popOf}
-use Rattle.xor.specs.Engine.{xor}
+use Rattle.chains.specs.Chain.{cell}
+use Rattle.xor.specs.Along.{clearAlong}
 
-module _ (links values : List ℕ) (list : Entry) (free : Free) where
-  pub clear-none : (left : ℕ) → left ≤ 0 → clearLeft (record { done = true; entry = list; free = free }) links values ≡ clearOn xor left links values list free
-  unfolding clearOn
-  clear-none zero h = refl
-  clear-none (suc left) h = absurd (not-suc-le-zero h)
+-- with so many slots left, at `slot` with `last` before it, what is to come is what was to come from the start; and what is stored in a link is small enough for one
+pub record Emptying (links₀ values₀ links values : List ℕ) (slot last head left : ℕ) (whole : Outcome Free) : Type 0 where
+  pub sameLinks : length links ≡ length links₀
+  pub sameValues : length values ≡ length values₀
+  pub small : (slot < 65536) × (last < 65536) × (head < 65536)
+  pub comes : clearAlong left links values last slot (record { head = head }) ≡ whole
 
-  pub clear-turn : (left : ℕ) {r : PopStep} {links′ values′ : List ℕ} → 0 < left → outcome r links′ values′ ≡ popOf Front links values list free → r .done ≡ true
-      → clearOn xor (left - 1) links′ values′ (r .entry) (r .free) ≡ clearOn xor left links values list free
-  unfolding clearOn
-  clear-turn zero h e d = absurd (not-suc-le-zero h)
-  clear-turn (suc left) {r} {links′} {values′} h e d =
+module _ (links values : List ℕ) (slot last head : ℕ) where
+  pub along-none : (left : ℕ) → left ≤ 0 → outcome (record { head = head }) links values ≡ clearAlong left links values last slot (record { head = head })
+  unfolding clearAlong
+  along-none zero h = refl
+  along-none (suc left) h = absurd (not-suc-le-zero h)
+
+  pub along-turn : (left : ℕ) → 0 < left → slot < length links → slot < length values
+      → clearAlong (left - 1) (set links slot head) (set values slot wipeWord) slot (bitXor (cell links slot) last) (record { head = slot }) ≡ clearAlong left links values last slot (record { head = head })
+  unfolding clearAlong
+  along-turn zero h p q = absurd (not-suc-le-zero h)
+  along-turn (suc left) h p q =
       let k : suc left - 1 ≡ left = omega arith in
-      ap (λ n. clearOn xor n links′ values′ (r .entry) (r .free)) k ∙ rw (← e, d)
+      rw (lt-ltb slot (length links) p, lt-ltb slot (length values) q, k)
 
-  pub clear-stops : (left : ℕ) {r : PopStep} {links′ values′ : List ℕ} → 0 < left → outcome r links′ values′ ≡ popOf Front links values list free → r .done ≡ false
-      → clearLeft (record { done = false; entry = r .entry; free = r .free }) links′ values′ ≡ clearOn xor left links values list free
-  unfolding clearOn
-  clear-stops zero h e d = absurd (not-suc-le-zero h)
-  clear-stops (suc left) h e d = rw (← e, d)
+  -- a number that lacks one of the two cells
+  pub along-stops : (left : ℕ) → (length links ≤ slot) ⊎ (length values ≤ slot) → outcome (record { head = head }) links values ≡ clearAlong left links values last slot (record { head = head })
+  unfolding clearAlong
+  along-stops zero h = refl
+  along-stops (suc left) (inl h) = rw (le-ltb slot (length links) h)
+  along-stops (suc left) (inr h) = rw (le-ltb slot (length values) h, and-false)

@@ -1,40 +1,33 @@
-// A list is emptied: its front is popped until nothing is left.
-use books::Entry;
+// A list is emptied in one go along it: each of its slots is released as the walk passes it.
+use books::Book;
 use books::Free;
-use shapes::ClearStep;
 ghost use mathlib.Core.Path.{_≡_};
-ghost use Rattle.engines.specs.Reads.{clearOn, clearLeft};
-ghost use Rattle.xor.specs.Engine.{xor};
+ghost use Rattle.books.specs.Book.{nullSlot};
+ghost use Rattle.books.specs.Outcome.{outcome};
+ghost use Rattle.xor.specs.Along.{clearAlong};
 
-// The front is popped `count` times. It ends at the first pop that is refused; what the pops before it did is done.
-pub fn clear(
-    links: &mut [u16],
-    values: &mut [u64],
-    list: Entry,
-    free: Free,
-    count: usize,
-) -> ClearStep
-    ensures { λ r. ⌜ clearLeft r (now (links .exit)) (now (values .exit)) ≡ clearOn xor count (now (links .entry)) (now (values .entry)) list free ⌝ }
+// At most `count` slots from `start` on: a slot's link becomes the free head, its value the wipe word, and it becomes the free head.
+// Answers the idle chain then. A number that has no link or no value ends it; what was done before is done.
+// Each cell is stored once, where popping the front would change the neighbour's link too. A slot is kept as an index.
+pub fn clear(links: &mut [u16], values: &mut [u64], start: u16, free: Free, count: usize) -> Free
+    ensures { λ r. ⌜ outcome r (now (links .exit)) (now (values .exit)) ≡ clearAlong count (now (links .entry)) (now (values .entry)) nullSlot start free ⌝ }
 {
-    let mut entry = list;
-    let mut rest = free;
+    let mut slot = rules::wide(start);
+    let mut last: usize = 0;
+    let mut head = rules::wide(free.head);
     let mut left = count;
+    let size = crate::least(links.len(), values.len());
     while 0 < left {
-        let gone = lists::pop_front(links, values, entry, rest);
-        entry = gone.entry;
-        rest = gone.free;
-        if !gone.done {
-            return ClearStep {
-                done: false,
-                entry,
-                free: rest,
-            };
+        if size <= slot {
+            return Free { head: head as u16 };
         }
+        let next = rules::wide(links[slot]) ^ last;
+        links[slot] = head as u16;
+        values[slot] = Book::WIPE;
+        head = slot;
+        last = slot;
+        slot = next;
         left -= 1;
     }
-    ClearStep {
-        done: true,
-        entry,
-        free: rest,
-    }
+    Free { head: head as u16 }
 }

@@ -18,3 +18,4 @@ pub mod Tried
 pub mod Traces
 pub mod Named
 pub mod Clearing
+pub mod Along

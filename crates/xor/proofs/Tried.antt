@@ -3,6 +3,7 @@ use mathlib.Core.Path.{_≡_, refl}
 use mathlib.Core.Bool.{true, false}
 use mathlib.Core.List.{List, [], _∷_}
 use Prim.Native.Nat.{ℕ}
+use Rattle.books.specs.Outcome.{outcome}
 use Rattle.shapes.specs.declared.End.the-variants.{Front, Back}
 use Rattle.shapes.specs.Ends.{nearOf, withNear}
 use Rattle.shapes.specs.Met.{isMetOf, markOf, unmet}
@@ -13,6 +14,7 @@ use Rattle.xor.specs.Slot.{inPool}
 use Rattle.xor.specs.Slots.{releaseOf}
 use Rattle.xor.specs.Steps.{isBeside, popOf}
 use Rattle.xor.specs.Engine.{xor}
+use Rattle.xor.specs.Along.{clearAlong}
 use Rattle.xor.proofs.Pools.{six, list, idle}
 
 abbrev four : ℕ → ℕ → ℕ → ℕ → List ℕ
@@ -43,3 +45,10 @@ pub p2-cleared : (clearOn xor 3 (six 0 1 1 1 5 0) (six 0 20 30 10 0 0) (list 3 2
     × (clearOn xor 3 (six 0 1 1 1 5 0) (six 0 20 30 10 0 0) (list 3 2) (idle 4) .values ≡ six 0 0 0 0 0 0)
 unfolding clearOn popOf isBeside nearOf withNear releaseOf inPool
 p2-cleared = (refl, refl, refl)
+
+-- P2 emptied along the list, then with no slot, then from a link that leads to 6, which the six slots have not
+pub p2-along : (clearAlong 3 (six 0 1 1 1 5 0) (six 0 20 30 10 0 0) 0 3 (idle 4) ≡ outcome (idle 2) (six 0 3 1 4 5 0) (six 0 0 0 0 0 0))
+    × (clearAlong 0 (six 0 1 1 1 5 0) (six 0 20 30 10 0 0) 0 0 (idle 4) ≡ outcome (idle 4) (six 0 1 1 1 5 0) (six 0 20 30 10 0 0))
+    × (clearAlong 3 (six 0 5 1 1 5 0) (six 0 20 30 10 0 0) 0 3 (idle 4) ≡ outcome (idle 1) (six 0 3 1 4 5 0) (six 0 0 30 0 0 0))
+unfolding clearAlong
+p2-along = (refl, refl, refl)

@@ -7,6 +7,7 @@ pub mod StepDone
 pub mod Engine
 pub mod Sound
 pub mod Ten
+pub mod Along
 pub mod ClearDone
 pub mod Moves
 pub mod Edges

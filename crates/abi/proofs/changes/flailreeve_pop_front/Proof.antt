@@ -1,17 +1,67 @@
--- `abi::changes::flailreeve_pop_front`: what the by-value call gives, over the book that the words are.
-use mathlib.Core.Path.{_∙_, ap}
+-- `abi::changes::flailreeve_pop_front`: what the check and `list_number` promise, by the test of their number, and what the pop on the list gives back.
+use mathlib.Core.Path.{_≡_, refl, sym, ap, _∙_}
+use mathlib.Core.Bool.{cond, _&&_}
+use lib.Dec.{leb, eqb}
+use denote.Ref.{now}
 use borrow.Author.Needs.{needs}
-use Rattle.books.specs.declared.Book.{Book}
-use Rattle.xor.specs.Ten.{popFrontOf}
+use Rattle.books.specs.declared.Free.{Free}
+use Rattle.books.specs.declared.Entry.{Entry}
+use Rattle.books.specs.Book.{entryAt}
+use Rattle.books.specs.Words.{bookFrom}
+use Rattle.shapes.specs.declared.End.the-variants.{Front}
+use Rattle.engines.specs.OnList.{popOn}
+use Rattle.engines.proofs.Looking.{early-stopped, early-passed}
+use Rattle.xor.specs.Engine.{xor}
+use Rattle.shares.proofs.Reached.{early-in-words, pop-early, pop-put}
+use Rattle.faces.proofs.Kept.{kept-refused}
 use Rattle.abi.proofs.Thin.{handed-by}
 use Rattle.abi.proofs.changes.flailreeve_pop_front.Statement.{statement}
 use Rattle.abi.proofs.changes.flailreeve_pop_front.Tie as tie
 
+-- what the check gave, and the number after the test of the list
+module _ (c : tie.After-list-number) where
+  abbrev look : tie.After-look
+  look = c .before .before .before .before
+
+  abbrev start : tie.Start
+  start = look .before .before .before .before .before .before
+
+  told : c .list-number .result ≡ cond (eqb (look .look .result .refusal .number) 0 && leb (bookFrom (now (start .args .book)) .lists) (start .args .list)) 4 (look .look .result .refusal .number)
+  told = early-in-words (look .look .result .refusal .number) (start .args .list) (c .before .lists-of .ensures) (c .list-number .ensures)
+
 returns : tie.Need-returns
 returns c =
-    let a = c .before .before .before .before .before .before .before .before .before .before .before .before .before .before .before .before .args in
-    handed-by _ (c .keep .ensures .0) (c .keep .ensures .1)
-    (c .before .before .before .before .before .before .before .before .before .pop-front .ensures ∙ ap (λ (b : Book). popFrontOf (a .links .now) (a .values .now) b (a .list)) (c .before .before .before .before .before .before .before .before .before .before .before .before .book-from .ensures))
+    let at = c .before in
+    let e = early-stopped xor _ _ _ _ _ (look at .look .ensures) _ (told at) (c .if1 .taken) in
+    handed-by _ refl refl (sym (kept-refused _ _ _ (c .if1 .taken))) (pop-early _ _ _ _ _ e (c .if1 .taken) Front refl)
+
+returns-2 : tie.Need-returns-2
+returns-2 c =
+    let gone = c .before .before .before .before .before .before in
+    let past = c .before .before .before .before .before .before .before .before .before .before .before .before .before .before .before in
+    let at = past .before in
+    let a = start at .args in
+    let (e, z) = early-passed xor _ _ _ _ _ (look at .look .ensures) _ (told at) (past .if1 .left) in
+    let q =
+    gone .pop .ensures
+    ∙ ap (λ (x : Entry). popOn xor (now (a .links)) (now (a .values)) x (c .before .before .before .before .before .before .before .before .before .before .free-of .result) (look at .look .result .found) Front) (c .before .before .before .before .before .before .before .before .before .before .before .before .entry-of .ensures)
+    ∙ ap (λ (x : Free). popOn xor (now (a .links)) (now (a .values)) (entryAt (bookFrom (now (a .book)) .entries) (a .list)) x (look at .look .result .found) Front) (c .before .before .before .before .before .before .before .before .before .before .free-of .ensures) in
+    handed-by _ (c .keep .ensures .0) refl (c .keep .ensures .1) (pop-put _ _ _ _ _ e z refl refl Front refl q)
 
 pub flailreeve-pop-front-spec : {M : Type 1} → statement M
-flailreeve-pop-front-spec = tie.close (tie.spec (λ c. search needs) (λ c. search needs) (λ c. search needs) (λ c. search needs) (λ c. search needs) returns)
+flailreeve-pop-front-spec =
+    tie.close
+    (tie.spec
+    (λ c κs. search needs)
+    (λ c κs. search needs)
+    (λ c κs. search needs)
+    (λ c. search needs)
+    (λ c. search needs)
+    returns
+    (λ c κs. search needs)
+    (λ c κs. search needs)
+    (λ c κs. search needs)
+    (λ c κs. search needs)
+    (λ c. search needs)
+    (λ c. search needs)
+    returns-2)

@@ -1,16 +1,11 @@
--- `abi::looks::flailreeve_read_forward`: what the by-value call gives, over the book that the words are.
-use mathlib.Core.Path.{_∙_, ap}
+-- `abi::looks::flailreeve_read_forward`: what the read in the words leaves.
 use borrow.Author.Needs.{needs}
-use Rattle.books.specs.declared.Book.{Book}
-use Rattle.xor.specs.Ten.{readForwardOf}
 use Rattle.abi.proofs.Thin.{shown-by}
 use Rattle.abi.proofs.looks.flailreeve_read_forward.Statement.{statement}
 use Rattle.abi.proofs.looks.flailreeve_read_forward.Tie as tie
 
 returns : tie.Need-returns
-returns c =
-    let a = c .before .before .before .before .before .before .before .before .before .args in
-    shown-by (c .before .before .before .read-forward .ensures ∙ ap (λ (b : Book). readForwardOf (a .links .now) (a .values .now) b (a .list) (a .out .now) (a .at)) (c .before .before .before .before .before .book-from .ensures))
+returns c = shown-by (c .before .before .before .read-words .ensures)
 
 pub flailreeve-read-forward-spec : {M : Type 1} → statement M
-flailreeve-read-forward-spec = tie.close (tie.spec (λ c. search needs) (λ c. search needs) (λ c. search needs) returns)
+flailreeve-read-forward-spec = tie.close (tie.spec (λ c κs. search needs) (λ c. search needs) returns)

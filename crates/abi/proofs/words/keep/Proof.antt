@@ -1,4 +1,4 @@
--- `abi::words::keep`: the words are the book's where the number is 0, and else as they were.
+-- `abi::words::keep`: the words are those of the book with the list's entry and the free head where the number is 0, and else as they were.
 use mathlib.Core.Path.{refl, sym, _∙_}
 use borrow.Author.Needs.{needs}
 use Rattle.faces.proofs.Kept.{kept-done, kept-refused}
@@ -6,10 +6,10 @@ use Rattle.abi.proofs.words.keep.Statement.{statement}
 use Rattle.abi.proofs.words.keep.Tie as tie
 
 returns : tie.Need-returns
-returns c = (refl, c .words-of .ensures ∙ sym (kept-done _ _ _ (c .before .if1 .taken)))
+returns c = (refl, c .put-list .ensures ∙ sym (kept-done _ _ _ (c .before .before .before .before .if1 .taken)))
 
 returns-2 : tie.Need-returns-2
 returns-2 c = (refl, sym (kept-refused _ _ _ (c .if1 .left)))
 
 pub keep-spec : {M : Type 1} → statement M
-keep-spec = tie.close (tie.spec (λ c. search needs) returns returns-2)
+keep-spec = tie.close (tie.spec (λ c κs. search needs) returns returns-2)

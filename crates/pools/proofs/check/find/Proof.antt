@@ -8,6 +8,7 @@ use borrow.Author.Needs.{needs}
 use borrow.Author.Tests.{not-true, not-false}
 use Rattle.books.specs.Book.{eight}
 use Rattle.books.specs.Test.{keepsRules}
+use Rattle.books.specs.Words.{bookFrom}
 use Rattle.books.proofs.Rules.{keeps-rules}
 use Rattle.engines.specs.Check.{checkFound}
 use Rattle.engines.proofs.Stages.{met-none}
@@ -15,7 +16,7 @@ use Rattle.pools.proofs.check.find.Statement.{statement}
 use Rattle.pools.proofs.check.find.Tie as tie
 
 -- past the first test the book keeps the rules
-kept : (c : tie.Else1) → keepsRules (length (now (c .before .before .before .before .before .args .links))) (eight (c .before .before .before .before .before .args .book)) ≡ true
+kept : (c : tie.Else1) → keepsRules (length (now (c .before .before .before .before .before .args .links))) (eight (bookFrom (now (c .before .before .before .before .before .args .words)))) ≡ true
 kept c = sym (c .before .keeps-rules .ensures) ∙ not-false (c .before .keeps-rules .result) (c .if1 .left)
 
 returns : tie.Need-returns

@@ -1,31 +1,44 @@
 -- `pools::check::find_over`: each answer follows from the tests on the way and from what the stages give.
-use mathlib.Core.Path.{_≡_, sym, _∙_}
+use mathlib.Core.Path.{_≡_, sym, ap, _∙_}
 use mathlib.Core.Bool.{true}
 use mathlib.Core.List.{List}
-use Prim.Native.Nat.{_<_}
+use Prim.Native.Nat.{ℕ, _<_}
 use native.Mathlib.Omega.{arith}
-use lib.ListN.{length, take, length-map, length-set}
-use lib.Seq.{length-take-le}
+use lib.ListN.{length, take, set, length-set}
 use denote.Ref.{now}
 use borrow.Author.Needs.{needs}
 use borrow.Author.Tests.{not-true, not-false}
+use Rattle.books.specs.declared.Free.{Free}
 use Rattle.books.specs.declared.Entry.{Entry}
-use Rattle.engines.specs.Check.{nullSlotZero}
+use Rattle.books.specs.Words.{entryFrom, entriesFrom, bookFrom}
+use Rattle.books.proofs.Eight.{used-many}
+use Rattle.shapes.specs.Faults.{round, gatheredNone}
+use Rattle.engines.specs.Check.{gatherAll, nullSlotZero, idlePath, idleFound}
 use Rattle.engines.proofs.Stages.{nothing-place, nothing-again, pool-null, pool-live, pool-fault, pool-idle-found}
 use Rattle.xor.specs.Engine.{xor}
 use Rattle.pools.proofs.check.find_over.Statement.{statement}
 use Rattle.pools.proofs.check.find_over.Tie as tie
 
 abbrev used : tie.Start → List Entry
-used c = take (c .args .book .lists) (c .args .book .entries)
+used s = take (bookFrom (now (s .args .words)) .lists) (entriesFrom (now (s .args .words)))
 
-as-many : (c : tie.Start) → length (used c) ≡ c .args .book .lists
-as-many c =
-    length-take-le (c .args .book .lists) (c .args .book .entries) (omega (arith, c .pre .2, sym (length-map (c .args .book .entries) _) ∙ c .good .1 .1 .1 .0 .1 .1 .1 .0 .1 .0 .1))
+as-many : (s : tie.Start) → length (used s) ≡ bookFrom (now (s .args .words)) .lists
+as-many s = used-many (entryFrom (now (s .args .words))) (bookFrom (now (s .args .words)) .lists) (s .pre .2)
 
 -- past the first test slot 0 is zero
 zero-slot : (c : tie.Else1) → nullSlotZero xor (now (c .before .before .before .before .before .args .links)) (now (c .before .before .before .before .before .args .values)) ≡ true
 zero-slot c = sym (c .before .null-slot-zero .ensures) ∙ not-false (c .before .null-slot-zero .result) (c .if1 .left)
+
+-- what the walks along the lists gave, with the number of lists as the book has it
+module _ (c : tie.After-gather) where
+  abbrev start : tie.Start
+  start = c .before .before .before .before .before .before .before .before
+
+  gathered : round (c .gather .result) (c .gather .last .1 .0)
+      ≡ gatherAll xor (start .args .wanted) (bookFrom (now (start .args .words)) .lists) (now (start .args .links)) 0 (used start) (set (now (start .args .met)) 0 0) (gatheredNone (bookFrom (now (start .args .words)) .lists))
+  gathered =
+      c .gather .ensures
+      ∙ ap (λ (n : ℕ). gatherAll xor (start .args .wanted) n (now (start .args .links)) 0 (take n (entriesFrom (now (start .args .words)))) (set (now (start .args .met)) 0 0) (gatheredNone n)) (c .before .before .lists-of .ensures)
 
 returns : tie.Need-returns
 returns c = c .faulty .ensures ∙ pool-null xor _ _ _ _ _ (sym (c .before .before .null-slot-zero .ensures) ∙ not-true (c .before .before .null-slot-zero .result) (c .before .if1 .taken))
@@ -39,16 +52,27 @@ first-place c =
 
 returns-2 : tie.Need-returns-2
 returns-2 c =
-    let s = c .before .before .before .before .before .before .before .before .before .before .before .before .before .before .before in
-    c .faulty2 .ensures ∙ pool-fault xor _ _ (used s) (as-many s) (nothing-again _ (s .pre .1)) (c .before .before .before .before .before .before .gather .ensures) _ _ (zero-slot (c .before .before .before .before .before .before .before .before .before .before)) (c .before .if2 .taken)
+    let g = c .before .before .before .before .before .before in
+    let s = start g in
+    c .faulty2 .ensures ∙ pool-fault xor _ _ (used s) (as-many s) (nothing-again _ (s .pre .1)) (gathered g) _ _ (zero-slot (g .before .before .before)) (c .before .if2 .taken)
 
 find-idle-requires : tie.Need-find-idle-requires
-find-idle-requires c κs = let s = c .before .before .before .before .before .before .before .before .before .before .before .before .before .before .before in (s .pre .0 .size, pool-live xor _ _ (used s) (as-many s) (nothing-again _ (s .pre .1)) (c .before .before .before .before .before .before .gather .ensures))
+find-idle-requires c κs =
+    let g = c .before .before .before .before .before .before .before in
+    let s = start g in
+    (s .pre .0 .size, pool-live xor _ _ (used s) (as-many s) (nothing-again _ (s .pre .1)) (gathered g))
 
 returns-3 : tie.Need-returns-3
 returns-3 c =
-    let s = c .before .before .before .before .before .before .before .before .before .before .before .before .before .before .before .before .before .before in
-    pool-idle-found xor _ _ (used s) (as-many s) (nothing-again _ (s .pre .1)) (c .before .before .before .before .before .before .before .before .before .gather .ensures) _ _ (zero-slot (c .before .before .before .before .before .before .before .before .before .before .before .before .before)) (c .before .before .before .before .if2 .left) (c .before .before .find-idle .ensures)
+    let i = c .before .before in
+    let g = i .before .before .before .before .before .before .before .before in
+    let s = start g in
+    let a = s .args in
+    let r = round (g .gather .result) (g .gather .last .1 .0) in
+    pool-idle-found xor _ _ (used s) (as-many s) (nothing-again _ (s .pre .1)) (gathered g) _ _ (zero-slot (g .before .before .before)) (i .before .before .before .if2 .left)
+    (i .find-idle .ensures
+    ∙ ap (λ (n : ℕ). idleFound (length (now (a .links))) (now (a .values)) (i .before .free-of .result) n r (idlePath xor (now (a .links)) (now (a .values)) (g .gather .last .1 .0) (i .before .free-of .result))) (g .before .before .lists-of .ensures)
+    ∙ ap (λ (f : Free). idleFound (length (now (a .links))) (now (a .values)) f (bookFrom (now (a .words)) .lists) r (idlePath xor (now (a .links)) (now (a .values)) (g .gather .last .1 .0) f)) (i .before .free-of .ensures))
 
 pub find-over-spec : {M : Type 1} → statement M
 find-over-spec =
@@ -58,10 +82,12 @@ find-over-spec =
     (λ c. search needs)
     returns
     first-place
+    (λ c κs. search needs)
+    (λ c κs. omega (arith, c .before .lists-of .ensures, c .before .before .before .before .before .before .before .pre .2))
     (λ c. search needs)
-    (λ c. search needs)
-    (λ c. c .before .before .before .before .before .before .gather .kept .1 .0 ∙ length-set (now (c .before .before .before .before .before .before .before .before .before .before .before .before .before .before .before .args .met)) 0 0)
+    (λ c. let g = c .before .before .before .before .before .before in g .gather .kept .1 .0 ∙ length-set (now (start g .args .met)) 0 0)
     returns-2
+    (λ c κs. search needs)
     find-idle-requires
-    (λ c. c .before .before .find-idle .kept .1 .1 .0 ∙ c .before .before .before .before .before .before .before .before .before .gather .kept .1 .0 ∙ length-set (now (c .before .before .before .before .before .before .before .before .before .before .before .before .before .before .before .before .before .before .args .met)) 0 0)
+    (λ c. let i = c .before .before in let g = i .before .before .before .before .before .before .before .before in i .find-idle .kept .1 .1 .0 ∙ g .gather .kept .1 .0 ∙ length-set (now (start g .args .met)) 0 0)
     returns-3)

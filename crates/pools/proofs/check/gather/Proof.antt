@@ -1,19 +1,22 @@
 -- `pools::check::gather`: at each turn the lists from here on give what all of them give.
 use mathlib.Core.Path.{_≡_, refl, sym, ap, subst, _∙_}
+use mathlib.Core.Bool.{_&&_}
 use mathlib.Core.List.{List}
-use Prim.Native.Nat.{_+_, _*_, _-_, _≤_, _<_}
+use Prim.Native.Nat.{ℕ, _+_, _*_, _-_, _≤_, _<_}
 use native.Mathlib.Omega.{arith}
+use lib.Dec.{eqb}
 use lib.ListN.{length, take, drop}
-use lib.Seq.{length-take-le, getD-take}
 use denote.Ref.{now}
 use borrow.Author.Needs.{needs}
 use borrow.Author.Tests.{not-true, not-false}
 use Rattle.books.specs.declared.Entry.{Entry}
-use Rattle.books.specs.Book.{zeroEntry, entryAt}
+use Rattle.books.specs.Book.{entryAt}
+use Rattle.books.specs.Words.{entryFrom, entriesFrom}
+use Rattle.books.proofs.Eight.{used-many, used-at}
 use Rattle.shapes.specs.Met.{unmet}
 use Rattle.shapes.proofs.Seen.{unmet-le}
 use Rattle.engines.specs.Walked.{LiveWalked}
-use Rattle.shapes.specs.Faults.{gatheredNone}
+use Rattle.shapes.specs.Faults.{gatheredNone, gatherOne}
 use Rattle.engines.specs.Check.{gatherAll}
 use Rattle.engines.proofs.Stages.{gather-done, gather-next, gather-halt, live-unmet}
 use Rattle.xor.specs.Engine.{xor}
@@ -21,63 +24,91 @@ use Rattle.pools.proofs.check.gather.Statement.{statement}
 use Rattle.pools.proofs.check.gather.Tie as tie
 
 abbrev Inv-loop : tie.InvT-loop
-Inv-loop links met₀ count wanted entries g₀ list₀ met g list =
-    (gatherAll xor wanted count links list (drop list (take count entries)) met g ≡ gatherAll xor wanted count links 0 (take count entries) met₀ (gatheredNone count))
+Inv-loop links met₀ count words wanted g₀ list₀ met g list =
+    (gatherAll xor wanted count links list (drop list (take count (entriesFrom words))) met g ≡ gatherAll xor wanted count links 0 (take count (entriesFrom words)) met₀ (gatheredNone count))
     × (g .live + unmet met ≤ unmet met₀) × (g .lacks ≤ 65535 * list) × (length met ≡ length met₀) × (list ≤ count)
 
 abbrev μ-loop : tie.MeasureT-loop
-μ-loop links met₀ count wanted entries g₀ list₀ met g list = count - list
+μ-loop links met₀ count words wanted g₀ list₀ met g list = count - list
 
 abbrev used : tie.Start Inv-loop μ-loop → List Entry
-used c = take (c .args .count) (c .args .t4)
+used s = take (s .args .count) (entriesFrom (now (s .args .words)))
 
-as-many : (c : tie.Start Inv-loop μ-loop) → length (used c) ≡ c .args .count
-as-many c = length-take-le (c .args .count) (c .args .t4) (omega (arith, c .good .1 .1 .1 .0 .1 .0 .1))
+as-many : (s : tie.Start Inv-loop μ-loop) → length (used s) ≡ s .args .count
+as-many s = used-many (entryFrom (now (s .args .words))) (s .args .count) (s .pre)
 
-inside : (c : tie.In-loop Inv-loop μ-loop) → c .before .loop .list < length (used (c .before .before .before .before .before))
-inside c = omega (arith, as-many (c .before .before .before .before .before))
+-- the entry that is read is the list's own
+same-entry : (s : tie.Start Inv-loop μ-loop) (k list : ℕ) → k ≡ list → list < s .args .count → entryFrom (now (s .args .words)) k ≡ entryAt (used s) list
+same-entry s k list e h = ap (entryFrom (now (s .args .words))) e ∙ sym (used-at (entryFrom (now (s .args .words))) (s .args .count) (s .pre) list h)
 
 loop-holds : tie.Need-loop-holds Inv-loop μ-loop
 loop-holds c = rw (c .gathered-none .ensures) (refl, omega arith, omega arith, refl, omega arith)
 
--- the entry that was read, and what the walk along it tells
-same-entry : (c : tie.After-walk-live Inv-loop μ-loop)
-    → entryAt (c .before .before .before .before .before .before .before .before .args .t4) (c .before .before .wide .result) ≡ entryAt (used (c .before .before .before .before .before .before .before .before)) (c .before .before .before .before .loop .list)
-same-entry c =
-    ap (entryAt (c .before .before .before .before .before .before .before .before .args .t4)) (c .before .before .wide .ensures .0) ∙ sym (getD-take (c .before .before .before .before .before .before .before .before .args .count) (c .before .before .before .before .before .before .before .before .args .t4) (c .before .before .before .before .loop .list) zeroEntry (omega arith))
+-- past the test of a walk: what the walk tells of the list, and what the test tells of the walk
+module _ (c : tie.After-ends-well Inv-loop μ-loop) where
+  abbrev walk : tie.After-walk-live Inv-loop μ-loop
+  walk = c .before .before .before
 
-walked : (c : tie.After-walk-live Inv-loop μ-loop)
-    → LiveWalked xor (now (c .before .before .before .before .before .before .before .before .args .links)) (c .before .before .before .before .loop .met) (entryAt (used (c .before .before .before .before .before .before .before .before)) (c .before .before .before .before .loop .list)) (c .walk-live .result) (c .walk-live .last .1 .0)
-walked c =
-    subst (λ (e : Entry). LiveWalked xor (now (c .before .before .before .before .before .before .before .before .args .links)) (c .before .before .before .before .loop .met) e (c .walk-live .result) (c .walk-live .last .1 .0)) (same-entry c) (c .walk-live .ensures)
+  abbrev at : tie.At-loop Inv-loop μ-loop
+  at = walk .before .before .before .before .before
+
+  abbrev start : tie.Start Inv-loop μ-loop
+  start = at .before .before .before .before
+
+  below : at .loop .list < start .args .count
+  below = omega arith
+
+  this : entryFrom (now (start .args .words)) (walk .before .before .before .wide .result) ≡ entryAt (used start) (at .loop .list)
+  this = same-entry start _ _ (walk .before .before .before .wide .ensures .0) below
+
+  walked : LiveWalked xor (now (start .args .links)) (at .loop .met) (entryAt (used start) (at .loop .list) .head) (walk .walk-live .result) (walk .walk-live .last .1 .0)
+  walked =
+      subst (λ (h : ℕ). LiveWalked xor (now (start .args .links)) (at .loop .met) h (walk .walk-live .result) (walk .walk-live .last .1 .0)) (walk .before .head-at .ensures ∙ ap (λ (e : Entry). e .head) this) (walk .walk-live .ensures)
+
+  told : c .ends-well .result ≡ (walk .walk-live .result .ok && eqb (walk .walk-live .result .last) (entryAt (used start) (at .loop .list) .tail))
+  told = c .ends-well .ensures ∙ ap (λ (t : ℕ). walk .walk-live .result .ok && eqb (walk .walk-live .result .last) t) (ap (λ (e : Entry). e .tail) this)
+
+  inside : at .loop .list < length (used start)
+  inside = omega (arith, as-many start, below)
+
+  -- the record's length is a number that a word holds
+  room : length (now (start .args .met)) < 18446744073709551616
+  room = let s = at .before .before in search needs
 
 returns : tie.Need-returns Inv-loop μ-loop
 returns c =
+    let w = c .before .before in
     rw (c .gather-fault .ensures)
-    (gather-halt xor _ _ _ _ (used (c .before .before .before .before .before .before .before .before .before .before .before .before .before)) (c .before .before .before .before .before .before .before .before .before .loop .list) _ (walked (c .before .before .before .before .before)) (inside (c .before .before .before .before .before .before .before .before)) (not-true (c .before .before .before .before .before .walk-live .result .ok) (c .before .if1 .taken))
-    ∙ c .before .before .before .before .before .before .before .before .before .loop .inv .0)
+    (gather-halt xor _ _ _ _ (used (start w)) (at w .loop .list) _ (walked w) (told w) (inside w) (not-true (w .ends-well .result) (c .before .if1 .taken))
+    ∙ at w .loop .inv .0)
 
 gather-one-requires : tie.Need-gather-one-requires Inv-loop μ-loop
-gather-one-requires c κs = (
-  omega (arith, live-unmet (walked (c .before .before .before .before)), c .before .before .before .before .before .before .before .before .loop .inv .1, unmet-le (now (c .before .before .before .before .before .before .before .before .before .before .before .before .args .met))),
-  omega (arith, c .before .before .before .before .before .before .before .before .loop .inv .2),
-)
+gather-one-requires c κs =
+    let w = c .before in (
+      omega (arith, below w, start w .pre),
+      omega (arith, live-unmet (walked w), at w .loop .inv .1, unmet-le (now (start w .args .met)), room w),
+      omega (arith, at w .loop .inv .2),
+    )
 
 loop-again : tie.Need-loop-again Inv-loop μ-loop
-loop-again c = (
-  rw (c .gather-one .ensures .0, same-entry (c .before .before .before .before .before))
-      (gather-next xor _ _ _ _ (used (c .before .before .before .before .before .before .before .before .before .before .before .before .before)) (c .before .before .before .before .before .before .before .before .before .loop .list) _ (walked (c .before .before .before .before .before)) (inside (c .before .before .before .before .before .before .before .before)) (not-false (c .before .before .before .before .before .walk-live .result .ok) (c .before .if1 .left)))
-      ∙ c .before .before .before .before .before .before .before .before .before .loop .inv .0,
-  omega (arith, live-unmet (walked (c .before .before .before .before .before)), c .before .before .before .before .before .before .before .before .before .loop .inv .1, ap (λ g. g .live) (c .gather-one .ensures .0)),
-  omega (arith, c .before .before .before .before .before .before .before .before .before .loop .inv .2, c .gather-one .ensures .1),
-  c .before .before .before .before .before .walk-live .kept .1 .0 ∙ c .before .before .before .before .before .before .before .before .before .loop .inv .3,
-  omega arith,
-)
+loop-again c =
+    let w = c .before .before in
+    let a = start w .args in (
+      rw (c .gather-one .ensures .0)
+          (ap (λ (e : Entry). gatherAll xor (a .wanted) (a .count) (now (a .links)) (at w .loop .list + 1) (drop (at w .loop .list + 1) (used (start w))) (walk w .walk-live .last .1 .0) (gatherOne (a .wanted) (a .count) (at w .loop .list) e (walk w .walk-live .result .length) (at w .loop .g))) (same-entry (start w) (at w .loop .list) (at w .loop .list) refl (below w))
+          ∙ gather-next xor _ _ _ _ (used (start w)) (at w .loop .list) _ (walked w) (told w) (inside w) (not-false (w .ends-well .result) (c .before .if1 .left))
+          ∙ at w .loop .inv .0),
+      omega (arith, live-unmet (walked w), at w .loop .inv .1, ap (λ g. g .live) (c .gather-one .ensures .0)),
+      omega (arith, at w .loop .inv .2, c .gather-one .ensures .1),
+      walk w .walk-live .kept .1 .0 ∙ at w .loop .inv .3,
+      omega arith,
+    )
 
 returns-2 : tie.Need-returns-2 Inv-loop μ-loop
 returns-2 c =
-    let e : length (used (c .before .before .before .before .before)) ≤ c .before .loop .list = omega (arith, as-many (c .before .before .before .before .before)) in
-    gather-done xor _ _ _ _ (used (c .before .before .before .before .before)) (c .before .loop .list) _ e ∙ c .before .loop .inv .0
+    let s = c .before .before .before .before .before in
+    let e : length (used s) ≤ c .before .loop .list = omega (arith, as-many s) in
+    gather-done xor _ _ _ _ (used s) (c .before .loop .list) _ e ∙ c .before .loop .inv .0
 
 pub gather-spec : {M : Type 1} → statement M
 gather-spec =
@@ -88,17 +119,11 @@ gather-spec =
     (λ c κs. search needs)
     loop-holds
     (λ c κs. search needs)
-    (λ c. search needs)
-    (λ c. search needs)
-    (λ c. search needs)
-    (λ c. search needs)
-    (λ c. search needs)
-    (λ c. search needs)
-    (λ c. search needs)
-    (λ c. search needs)
+    (λ c κs. omega (arith, c .before .wide .ensures .0))
     (λ c κs. search needs)
+    (λ c κs. omega (arith, c .before .before .before .before .before .wide .ensures .0))
     (λ c κs. search needs)
-    (λ c. c .before .before .before .before .before .walk-live .kept .1 .0 ∙ c .before .before .before .before .before .before .before .before .before .loop .inv .3)
+    (λ c. let w = c .before .before in walk w .walk-live .kept .1 .0 ∙ at w .loop .inv .3)
     returns
     gather-one-requires
     (λ c. search needs)

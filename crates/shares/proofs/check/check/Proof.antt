@@ -1,25 +1,22 @@
--- `shares::check::check`: the number that the look gives.
-use mathlib.Core.Path.{ap, _∙_}
-use Prim.Native.Nat.{ℕ}
+-- `shares::check::check`: the check of the words that the book is.
+use mathlib.Core.Path.{_≡_, sym, ap, _∙_}
 use denote.Ref.{now}
+use lib.ListN.{length, length-map}
 use borrow.Author.Needs.{needs}
-use Rattle.books.specs.declared.Refusal.{Refusal}
-use Rattle.books.specs.Book.{eight}
-use Rattle.shapes.specs.declared.Looked.{Looked}
-use Rattle.engines.specs.Calls.{checkCall}
-use Rattle.engines.proofs.Looking.{look-number}
-use Rattle.xor.specs.Engine.{xor}
+use Rattle.books.specs.declared.Book.{Book}
+use Rattle.xor.specs.Ten.{checkOf}
+use Rattle.shares.proofs.Reached.{words-book}
 use Rattle.shares.proofs.check.check.Statement.{statement}
 use Rattle.shares.proofs.check.check.Tie as tie
 
-abbrev numbered : ℕ → Refusal
-numbered n = record { number = n }
+entries : (s : tie.Start) → length (s .args .book .entries) ≡ 8
+entries s = sym (length-map (s .args .book .entries) _) ∙ s .good .1 .1 .0 .1 .1 .1 .0 .1 .0 .1
 
 returns : tie.Need-returns
-unfolding checkCall
 returns c =
-    let s = c .before .before .before .before .args in
-    ap (λ (r : Looked). r .refusal) (c .before .look .ensures) ∙ ap numbered (look-number xor 0 (now (s .links)) (now (s .values)) (eight (s .book)))
+    let s = c .before .before .before .before .before in
+    let a = s .args in
+    c .check-words .ensures ∙ ap (λ (b : Book). checkOf (now (a .links)) (now (a .values)) b) (words-book (a .book) (entries s) (c .before .before .words-of .ensures))
 
 pub check-spec : {M : Type 1} → statement M
-check-spec = tie.close (tie.spec (λ c. search needs) returns)
+check-spec = tie.close (tie.spec (λ c κs. search needs) (λ c κs. search needs) returns)

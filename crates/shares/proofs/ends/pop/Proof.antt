@@ -1,59 +1,65 @@
--- `shares::ends::pop`: what `look`, `list_number` and `pop_number` promise, by the tests of their numbers, and what the pop from the list leaves.
+-- `shares::ends::pop`: what the check and `list_number` promise, by the test of their number, and what the pop from the list gives back.
+use mathlib.Core.Path.{_≡_, sym, _∙_}
+use denote.Ref.{now}
+use lib.ListN.{length, length-map}
 use borrow.Author.Needs.{needs}
+use Rattle.books.specs.Book.{eight}
+use Rattle.engines.specs.Check.{lookOf}
 use Rattle.engines.proofs.Looking.{early-stopped, early-passed}
 use Rattle.xor.specs.Engine.{xor}
-use Rattle.shares.proofs.Reached.{pop-early, inside, pop-empty, pop-went}
+use Rattle.shares.proofs.Reached.{look-of-words, pop-early, inside, pop-put}
 use Rattle.shares.proofs.ends.pop.Statement.{statement}
 use Rattle.shares.proofs.ends.pop.Tie as tie
 
+-- what the check gave, of the book itself
+module _ (c : tie.After-list-number) where
+  abbrev start : tie.Start
+  start = c .before .before .before .before .before .before .before .before .before
+
+  entries : length (start .args .t4 .entries) ≡ 8
+  entries = sym (length-map (start .args .t4 .entries) _) ∙ start .good .1 .1 .1 .0 .1 .1 .1 .0 .1 .0 .1
+
+  looked : c .before .before .look .result ≡ lookOf xor (start .args .list) (now (start .args .links)) (now (start .args .values)) (eight (start .args .t4))
+  looked = look-of-words (now (start .args .links)) (now (start .args .values)) (start .args .t4) (start .args .list) entries (c .before .before .before .before .before .before .words-of .ensures) (c .before .before .look .ensures)
+
 returns : tie.Need-returns
 returns c =
-    let at = c .before in
-    let e = early-stopped xor _ _ _ _ _ (at .before .before .before .look .ensures) _ (at .before .list-number .ensures) (at .if1 .taken) in
-    pop-early _ _ _ _ _ e (at .if1 .taken) _ (c .refused-pop .ensures)
-
-returns-2 : tie.Need-returns-2
-returns-2 c =
-    let at = c .before .before in
-    let past = at .before .before in
-    let (e, z) = early-passed xor _ _ _ _ _ (past .before .before .before .look .ensures) _ (past .before .list-number .ensures) (past .if1 .left) in
-    pop-empty _ _ _ _ _ e z _ (at .pop-number .ensures) (c .before .if2 .taken) _ (c .refused-pop2 .ensures)
+    let past = c .before in
+    let at = past .before in
+    let e = early-stopped xor _ _ _ _ _ (looked at) _ (at .list-number .ensures) (past .if1 .taken) in
+    pop-early _ _ _ _ _ e (past .if1 .taken) _ (c .popped .ensures)
 
 element-copy-out-entry : tie.Need-element-copy-out-entry
 element-copy-out-entry c =
-    let past = c .before .before .before .before in
-    let (e, z) = early-passed xor _ _ _ _ _ (past .before .before .before .look .ensures) _ (past .before .list-number .ensures) (past .if1 .left) in
+    let past = c .before .before in
+    let (e, z) = early-passed xor _ _ _ _ _ (looked (past .before)) _ (past .before .list-number .ensures) (past .if1 .left) in
     inside _ _ _ _ _ e z (c .wide .ensures .0)
 
-returns-3 : tie.Need-returns-3
-returns-3 c =
-    let gone = c .before .before .before .before .before in
-    let found = gone .before .before .before .before .before in
-    let at = found .before .before in
-    let past = at .before .before in
-    let (e, z) = early-passed xor _ _ _ _ _ (past .before .before .before .look .ensures) _ (past .before .list-number .ensures) (past .if1 .left) in
-    pop-went _ _ _ _ _ e z _ (at .pop-number .ensures) (found .before .if2 .left) _ (found .wide .ensures .0) (gone .pop-at .ensures) (c .with-list .ensures)
+returns-2 : tie.Need-returns-2
+returns-2 c =
+    let gone = c .before .before .before .before .before .before in
+    let past = gone .before .before .before .before .before .before .before .before in
+    let a = start (past .before) .args in
+    let (e, z) = early-passed xor _ _ _ _ _ (looked (past .before)) _ (past .before .list-number .ensures) (past .if1 .left) in
+    pop-put _ _ _ _ _ e z (gone .before .before .before .before .before .before .wide .ensures .0) (c .before .with-list .ensures) (a .end) (c .popped2 .ensures) (gone .pop .ensures)
 
 pub pop-spec : {M : Type 1} → statement M
 pop-spec =
     tie.close
     (tie.spec
-    (λ c. search needs)
-    (λ c. search needs)
-    (λ c. search needs)
+    (λ c κs. search needs)
+    (λ c κs. search needs)
+    (λ c κs. search needs)
+    (λ c κs. search needs)
     (λ c. search needs)
     (λ c. search needs)
     returns
-    (λ c. search needs)
-    (λ c. search needs)
-    (λ c. search needs)
-    (λ c. search needs)
-    returns-2
-    (λ c. search needs)
+    (λ c κs. search needs)
     (λ c. search needs)
     element-copy-out-entry
+    (λ c κs. search needs)
+    (λ c κs. search needs)
+    (λ c κs. search needs)
     (λ c. search needs)
     (λ c. search needs)
-    (λ c. search needs)
-    (λ c. search needs)
-    returns-3)
+    returns-2)

@@ -5,7 +5,7 @@ use native.Mathlib.Omega.{arith}
 use borrow.Author.Needs.{needs}
 use Rattle.books.specs.Book.{zeroEntry}
 use Rattle.shapes.specs.Setup.{freshEntry}
-use Rattle.shares.proofs.Fill.{Filling, fill-none, fill-more, fill-all}
+use Rattle.books.proofs.Fill.{Filling, fill-none, fill-more, fill-all}
 use Rattle.shares.proofs.setup.fresh_entries.Statement.{statement}
 use Rattle.shares.proofs.setup.fresh_entries.Tie as tie
 

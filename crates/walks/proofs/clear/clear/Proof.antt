@@ -1,39 +1,84 @@
--- `walks::clear::clear`: before each turn the pops that are left give what all of them were to give.
-use mathlib.Core.Path.{_≡_, refl, _∙_}
+-- `walks::clear::clear`: before each turn what is to come is what was to come from the start.
+use mathlib.Core.Path.{_≡_, refl, ap, _∙_}
+use mathlib.Core.Logic.{_⊎_, inl, inr}
+use Prim.Native.Nat.{_-_, _≤_, _<_}
 use native.Mathlib.Omega.{arith}
-use lib.ListN.{length}
+use lib.Bits.{bitXor, xor-lt}
+use lib.ListN.{length, set, length-set}
+use denote.Ref.{now}
 use borrow.Author.Needs.{needs}
-use borrow.Author.Tests.{not-true, not-false}
-use Rattle.engines.specs.Reads.{clearOn}
-use Rattle.xor.specs.Engine.{xor}
-use Rattle.walks.proofs.Turns.{clear-none, clear-turn, clear-stops}
+use Rattle.books.specs.Book.{nullSlot, wipeWord}
+use Rattle.xor.specs.Along.{clearAlong}
+use Rattle.walks.proofs.Turns.{Emptying, along-none, along-turn, along-stops}
 use Rattle.walks.proofs.clear.clear.Statement.{statement}
 use Rattle.walks.proofs.clear.clear.Tie as tie
 
 abbrev Inv-loop : tie.InvT-loop
-Inv-loop links₀ values₀ count entry₀ rest₀ left₀ links values entry rest left =
-    (length links ≡ length links₀) × (length values ≡ length values₀) × (clearOn xor left links values entry rest ≡ clearOn xor left₀ links₀ values₀ entry₀ rest₀)
+Inv-loop links₀ values₀ start count slot₀ last₀ head₀ left₀ size links values slot last head left =
+    Emptying links₀ values₀ links values slot last head left (clearAlong left₀ links₀ values₀ last₀ slot₀ (record { head = head₀ }))
 
 abbrev μ-loop : tie.MeasureT-loop
-μ-loop links₀ values₀ count entry₀ rest₀ left₀ links values entry rest left = left
+μ-loop links₀ values₀ start count slot₀ last₀ head₀ left₀ size links values slot last head left = left
+
+loop-holds : tie.Need-loop-holds Inv-loop μ-loop
+loop-holds c =
+    record {
+      sameLinks = refl;
+      sameValues = refl;
+      small = (c .before .before .wide .ensures .1, omega arith, c .before .wide2 .ensures .1);
+      comes = refl;
+    }
+
+-- what was to come is what the call is to give
+module _ (c : tie.At-loop Inv-loop μ-loop) where
+  abbrev start : tie.Start Inv-loop μ-loop
+  start = c .before .before .before .before .before .before
+
+  begun : clearAlong (c .loop .left) (c .loop .links) (c .loop .values) (c .loop .last) (c .loop .slot) (record { head = c .loop .head })
+      ≡ clearAlong (start .args .count) (now (start .args .links)) (now (start .args .values)) nullSlot (start .args .start) (start .args .free)
+  begun =
+      c .loop .inv .comes
+      ∙ ap (λ s. clearAlong (start .args .count) (now (start .args .links)) (now (start .args .values)) nullSlot s (record { head = c .before .before .wide2 .result })) (c .before .before .before .wide .ensures .0)
+      ∙ ap (λ h. clearAlong (start .args .count) (now (start .args .links)) (now (start .args .values)) nullSlot (start .args .start) (record { head = h })) (c .before .before .wide2 .ensures .0)
+
+-- a slot below the lesser length has both cells, and any other lacks one
+both-cells : (c : tie.Else1 Inv-loop μ-loop) → let at = c .before .before in (at .loop .slot < length (at .loop .links)) × (at .loop .slot < length (at .loop .values))
+both-cells c =
+    let at = c .before .before in
+    let (p, q, e) = at .before .least .ensures in
+    (omega (arith, c .if1 .left, at .loop .inv .sameLinks), omega (arith, c .if1 .left, at .loop .inv .sameValues))
+
+one-lacks : (c : tie.Then1 Inv-loop μ-loop) → let at = c .before .before in (length (at .loop .links) ≤ at .loop .slot) ⊎ (length (at .loop .values) ≤ at .loop .slot)
+one-lacks c = go (c .before .before .before .least .ensures .2)
+  where
+    at : tie.At-loop Inv-loop μ-loop
+    at = c .before .before
+
+    go : (at .before .least .result ≡ length (now (start at .args .links))) ⊎ (at .before .least .result ≡ length (now (start at .args .values)))
+        → (length (at .loop .links) ≤ at .loop .slot) ⊎ (length (at .loop .values) ≤ at .loop .slot)
+    go (inl e) = inl (omega (arith, c .if1 .taken, at .loop .inv .sameLinks))
+    go (inr e) = inr (omega (arith, c .if1 .taken, at .loop .inv .sameValues))
 
 returns : tie.Need-returns Inv-loop μ-loop
-returns c =
-    let at = c .before .before .before .before .before .before .before .before .before .before .before in
-    let gone = c .before .before .before .before .before .before .before .before .pop-front in
-    clear-stops _ _ _ _ (at .before .loop .left) (omega (arith, at .loop-test .taken)) (gone .ensures) (not-true (gone .result .done) (c .if1 .taken)) ∙ at .before .loop .inv .2
+returns c = let at = c .before .before in along-stops _ _ (at .loop .slot) (at .loop .last) _ (at .loop .left) (one-lacks c) ∙ begun at
 
 loop-again : tie.Need-loop-again Inv-loop μ-loop
 loop-again c =
-    let at = c .before .before .before .before .before .before .before .before .before .before .before in
-    let gone = c .before .before .before .before .before .before .before .before .pop-front in (
-      gone .kept .0 ∙ at .before .loop .inv .0,
-      gone .kept .1 .0 ∙ at .before .loop .inv .1,
-      clear-turn _ _ _ _ (at .before .loop .left) (omega (arith, at .loop-test .taken)) (gone .ensures) (not-false (gone .result .done) (c .if1 .left)) ∙ at .before .loop .inv .2,
-    )
+    let at = c .before .before .before .before in
+    let (p, q) = both-cells (c .before .before) in
+    let links′ = set (at .loop .links) (at .loop .slot) (at .loop .head) in
+    let values′ = set (at .loop .values) (at .loop .slot) wipeWord in
+    record {
+      sameLinks = length-set (at .loop .links) (at .loop .slot) (at .loop .head) ∙ at .loop .inv .sameLinks;
+      sameValues = length-set (at .loop .values) (at .loop .slot) wipeWord ∙ at .loop .inv .sameValues;
+      small = (xor-lt 16 (c .wide3 .result) (at .loop .last) (c .wide3 .ensures .1) (at .loop .inv .small .1), at .loop .inv .small .0, at .loop .inv .small .0);
+      comes = ap (λ v. clearAlong (at .loop .left - 1) links′ values′ (at .loop .slot) (bitXor v (at .loop .last)) (record { head = at .loop .slot })) (c .wide3 .ensures .0)
+          ∙ along-turn (at .loop .links) (at .loop .values) (at .loop .slot) (at .loop .last) (at .loop .head) (at .loop .left) (omega (arith, c .before .before .before .loop-test .taken)) p q
+          ∙ at .loop .inv .comes;
+    }
 
 returns-2 : tie.Need-returns-2 Inv-loop μ-loop
-returns-2 c = clear-none _ _ _ _ (c .before .loop .left) (omega (arith, c .loop-test .left)) ∙ c .before .loop .inv .2
+returns-2 c = let at = c .before in along-none _ _ (at .loop .slot) (at .loop .last) _ (at .loop .left) (omega (arith, c .loop-test .left)) ∙ begun at
 
 pub clear-spec : {M : Type 1} → statement M
 clear-spec =
@@ -41,14 +86,26 @@ clear-spec =
     (tie.spec
     Inv-loop
     μ-loop
-    (λ c. (refl, refl, refl))
+    (λ c κs. search needs)
+    (λ c κs. search needs)
+    (λ c κs. search needs)
+    loop-holds
     (λ c. search needs)
     (λ c. search needs)
     (λ c. search needs)
     returns
     (λ c. search needs)
+    (λ c. both-cells (c .before) .0)
+    (λ c κs. search needs)
+    (λ c. search needs)
+    (λ c. search needs)
+    (λ c. both-cells (c .before .before) .0)
+    (λ c. search needs)
+    (λ c. both-cells (c .before .before) .1)
+    (λ c. search needs)
     (λ c. search needs)
     loop-again
+    (λ c. search needs)
     (λ c. search needs)
     (λ c. search needs)
     returns-2)

@@ -1,0 +1,18 @@
+-- The book as C has it, 34 words, in the order of `struct flailreeve_book`: the book that the words are. The words of a book are `wordsOf`, beside the book's own definition.
+use mathlib.Core.List.{List}
+use Prim.Native.Nat.{ℕ, _+_, _*_}
+use lib.ListN.{getD}
+use Rattle.books.specs.declared.Entry.{Entry}
+use Rattle.books.specs.declared.Book.{Book}
+use Rattle.books.specs.Book.{mostLists}
+use Rattle.books.specs.Tabulate.{tabulate}
+
+-- list l's entry: four words, after the first word and the entries before it
+abbrev pub entryFrom : List ℕ → ℕ → Entry
+entryFrom words l = record { head = getD words (4 * l + 1) 0; tail = getD words (4 * l + 2) 0; share = getD words (4 * l + 3) 0; limit = getD words (4 * l + 4) 0 }
+
+abbrev pub entriesFrom : List ℕ → List Entry
+entriesFrom words = tabulate mostLists (entryFrom words)
+
+abbrev pub bookFrom : List ℕ → Book
+bookFrom words = record { lists = getD words 0 0; entries = entriesFrom words; free = record { head = getD words 33 0 } }

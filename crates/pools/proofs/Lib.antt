@@ -1,0 +1,2 @@
+-- How a book is put into words.
+pub mod Put

@@ -1,0 +1,83 @@
+// Does the book keep the book rules? It is read from the words where they lie.
+use crate::words::head_at;
+use crate::words::limit_at;
+use crate::words::share_at;
+use crate::words::tail_at;
+ghost use mathlib.Core.Path.{_≡_};
+ghost use Prim.Native.Nat.{_≤_, _<_};
+ghost use lib.ListN.{take, drop};
+ghost use Rattle.books.specs.Book.{eight};
+ghost use Rattle.books.specs.Test.{isFair, isZero, gather, allZero, keepsRules};
+ghost use Rattle.books.specs.Words.{entryFrom, entriesFrom, bookFrom};
+
+// In a pool of so many slots.
+pub(crate) fn keeps_rules(words: &[u16; 34], size: usize) -> bool
+    ensures { λ r. ⌜ r ≡ keepsRules size (eight (bookFrom (now (words .entry)))) ⌝ }
+{
+    let lists = crate::words::lists_of(words);
+    if lists == 0 {
+        return false;
+    }
+    if 8 < lists {
+        return false;
+    }
+    let count = lists as usize;
+    if !shares_fit(words, count, size) {
+        return false;
+    }
+    rest_zero(words, count)
+}
+
+// Is a list's share within its limit, and its limit within the pool?
+fn is_fair(words: &[u16; 34], list: usize, size: usize) -> bool
+    requires { ⌜ list < 8 ⌝ }
+    ensures { λ r. ⌜ r ≡ isFair size (entryFrom (now (words .entry)) list) ⌝ }
+{
+    let limit = limit_at(words, list);
+    if share_at(words, list) <= limit {
+        return rules::wide(limit) < size;
+    }
+    false
+}
+
+// Are the first `count` entries fair, and do their shares add up to less than the pool's size?
+fn shares_fit(words: &[u16; 34], count: usize, size: usize) -> bool
+    requires { ⌜ count ≤ 8 ⌝ }
+    ensures { λ r. ⌜ r ≡ gather size (take count (entriesFrom (now (words .entry)))) 0 ⌝ }
+{
+    let mut sum: usize = 0;
+    let mut k: usize = 0;
+    while k < count {
+        if !is_fair(words, k, size) {
+            return false;
+        }
+        sum += rules::wide(share_at(words, k));
+        k += 1;
+    }
+    sum < size
+}
+
+// The four words of an entry are gathered into one, so that the compiler reads them as one number.
+fn is_zero(words: &[u16; 34], list: usize) -> bool
+    requires { ⌜ list < 8 ⌝ }
+    ensures { λ r. ⌜ r ≡ isZero (entryFrom (now (words .entry)) list) ⌝ }
+{
+    let ends = head_at(words, list) | tail_at(words, list);
+    let all = ends | share_at(words, list) | limit_at(words, list);
+    all == 0
+}
+
+// Are all entries from `from` on zero?
+fn rest_zero(words: &[u16; 34], from: usize) -> bool
+    requires { ⌜ from ≤ 8 ⌝ }
+    ensures { λ r. ⌜ r ≡ allZero (drop from (entriesFrom (now (words .entry)))) ⌝ }
+{
+    let mut k = from;
+    while k < 8 {
+        if !is_zero(words, k) {
+            return false;
+        }
+        k += 1;
+    }
+    true
+}

@@ -1,0 +1,195 @@
+// The book as C has it, 34 words: L, then head, tail, share and limit of each entry, then the free head. This file alone knows where
+// each word stands. The check reads the words where they lie, so that no call has to copy a book.
+use books::Book;
+use books::Entry;
+use books::Free;
+ghost use mathlib.Core.Path.{_≡_};
+ghost use Prim.Native.Nat.{_<_};
+ghost use lib.Dec.{eqb};
+ghost use lib.ListN.{length};
+ghost use Rattle.books.specs.Book.{mostLists, eight, bookOf, entryAt, wordsOf};
+ghost use Rattle.books.specs.Words.{entryFrom, entriesFrom, bookFrom};
+ghost use Rattle.shapes.specs.Changes.{withList};
+ghost use Rattle.engines.specs.Calls.{freshBookOf};
+
+// How many lists there are.
+pub fn lists_of(words: &[u16; 34]) -> u16
+    ensures { λ r. ⌜ r ≡ bookFrom (now (words .entry)) .lists ⌝ }
+{
+    words[0]
+}
+
+// The idle chain.
+pub fn free_of(words: &[u16; 34]) -> Free
+    ensures { λ r. ⌜ r ≡ bookFrom (now (words .entry)) .free ⌝ }
+{
+    let head = words[33];
+    Free { head }
+}
+
+// The entry of a list, all zero where there is no such place.
+pub fn entry_of(words: &[u16; 34], list: u16) -> Entry
+    ensures { λ r. ⌜ r ≡ entryAt (bookFrom (now (words .entry)) .entries) list ⌝ }
+{
+    let k = rules::wide(list);
+    if k < 8 {
+        entry_at(words, k)
+    } else {
+        Entry::zero()
+    }
+}
+
+fn entry_at(words: &[u16; 34], list: usize) -> Entry
+    requires { ⌜ list < 8 ⌝ }
+    ensures { λ r. ⌜ r ≡ entryFrom (now (words .entry)) list ⌝ }
+{
+    let k = 4 * list;
+    Entry {
+        head: words[k + 1],
+        tail: words[k + 2],
+        share: words[k + 3],
+        limit: words[k + 4],
+    }
+}
+
+pub(crate) fn head_at(words: &[u16; 34], list: usize) -> u16
+    requires { ⌜ list < 8 ⌝ }
+    ensures { λ r. ⌜ r ≡ entryFrom (now (words .entry)) list .head ⌝ }
+{
+    words[4 * list + 1]
+}
+
+pub(crate) fn tail_at(words: &[u16; 34], list: usize) -> u16
+    requires { ⌜ list < 8 ⌝ }
+    ensures { λ r. ⌜ r ≡ entryFrom (now (words .entry)) list .tail ⌝ }
+{
+    words[4 * list + 2]
+}
+
+pub(crate) fn share_at(words: &[u16; 34], list: usize) -> u16
+    requires { ⌜ list < 8 ⌝ }
+    ensures { λ r. ⌜ r ≡ entryFrom (now (words .entry)) list .share ⌝ }
+{
+    words[4 * list + 3]
+}
+
+pub(crate) fn limit_at(words: &[u16; 34], list: usize) -> u16
+    requires { ⌜ list < 8 ⌝ }
+    ensures { λ r. ⌜ r ≡ entryFrom (now (words .entry)) list .limit ⌝ }
+{
+    words[4 * list + 4]
+}
+
+// The words of a book.
+pub fn words_of(book: Book) -> [u16; 34]
+    ensures { λ r. ⌜ r ≡ wordsOf book ⌝ }
+{
+    let entries = book.entries;
+    let free = book.free;
+    let mut words = [0u16; 34];
+    words[0] = book.lists;
+    let mut list: usize = 0;
+    while list < 8 {
+        let entry = entries[list];
+        let k = 4 * list;
+        words[k + 1] = entry.head;
+        words[k + 2] = entry.tail;
+        words[k + 3] = entry.share;
+        words[k + 4] = entry.limit;
+        list += 1;
+    }
+    words[33] = free.head;
+    words
+}
+
+// The words of a fresh pool's book: the lists are empty, with their shares and limits, and slot 1 is the free head.
+pub fn fresh_words(lists: u16, shares: &[u16; 8], limits: &[u16; 8]) -> [u16; 34]
+    ensures { λ r. ⌜ r ≡ wordsOf (bookOf (freshBookOf mostLists lists (now (shares .entry)) (now (limits .entry)))) ⌝ }
+{
+    let mut words = [0u16; 34];
+    words[0] = lists;
+    let mut list: usize = 0;
+    while list < 8 {
+        let k = 4 * list;
+        words[k + 1] = Book::NULL;
+        words[k + 2] = Book::NULL;
+        words[k + 3] = shares[list];
+        words[k + 4] = limits[list];
+        list += 1;
+    }
+    words[33] = 1;
+    words
+}
+
+// The book that the words are.
+fn book_from(words: &[u16; 34]) -> Book
+    ensures { λ r. ⌜ r ≡ bookFrom (now (words .entry)) ⌝ }
+{
+    let entries = entries_from(words);
+    Book {
+        lists: lists_of(words),
+        entries,
+        free: free_of(words),
+    }
+}
+
+fn entries_from(words: &[u16; 34]) -> [Entry; 8]
+    ensures { λ r. ⌜ r ≡ entriesFrom (now (words .entry)) ⌝ }
+{
+    let none = Entry::zero();
+    let mut entries = [none; 8];
+    let mut list: usize = 0;
+    while list < 8 {
+        let entry = entry_at(words, list);
+        entries[list] = entry;
+        list += 1;
+    }
+    entries
+}
+
+// The book with another entry for one list, and another idle chain.
+pub fn with_list(book: Book, k: usize, entry: Entry, free: Free) -> Book
+    ensures { λ r. ⌜ r ≡ bookOf (withList (eight book) k entry free) ⌝ }
+{
+    let mut out = book;
+    if k < 8 {
+        out.entries[k] = entry;
+    }
+    out.free = free;
+    out
+}
+
+// The same in the words themselves, where five of them are stored.
+pub fn put_list(words: &mut [u16; 34], list: u16, entry: Entry, free: Free)
+    ensures { λ _. ⌜ now (words .exit) ≡ wordsOf (bookOf (withList (eight (bookFrom (now (words .entry)))) list entry free)) ⌝ }
+{
+    let k = rules::wide(list);
+    if k < 8 {
+        if has_all(words) {
+            put_five(words, k, entry, free);
+            return;
+        }
+    }
+    // A list past the eighth: the ten calls never come here. Nor do they for want of a word; a reference to an array tells the prover
+    // nothing of its length, so that has to be asked, and the compiler, which knows it, leaves the question out.
+    let held = book_from(words);
+    *words = words_of(with_list(held, k, entry, free));
+}
+
+fn has_all(words: &[u16]) -> bool
+    ensures { λ r. ⌜ r ≡ eqb (length (now (words .entry))) 34 ⌝ }
+{
+    words.len() == 34
+}
+
+fn put_five(words: &mut [u16; 34], list: usize, entry: Entry, free: Free)
+    requires { ⌜ (list < 8) × (length (now words) ≡ 34) ⌝ }
+    ensures { λ _. ⌜ now (words .exit) ≡ wordsOf (bookOf (withList (eight (bookFrom (now (words .entry)))) list entry free)) ⌝ }
+{
+    let k = 4 * list;
+    words[k + 1] = entry.head;
+    words[k + 2] = entry.tail;
+    words[k + 3] = entry.share;
+    words[k + 4] = entry.limit;
+    words[33] = free.head;
+}

@@ -1,0 +1,42 @@
+-- Setup from what `lay_out` leaves: which book goes with which number.
+use mathlib.Core.Path.{_≡_, sym, ap, _∙_}
+use mathlib.Core.Logic.{_≢_}
+use mathlib.Core.List.{List}
+use Prim.Native.Nat.{ℕ}
+use native.Mathlib.Decide.{ℕ-discrete}
+use Rattle.books.specs.declared.Book.{Book}
+use Rattle.books.specs.Book.{mostLists, zeroBook, bookOf}
+use Rattle.books.specs.Outcome.{outcome}
+use Rattle.shapes.specs.Numbers.{firstThat}
+use Rattle.shapes.proofs.Numbers.{decided-refused, decided-done}
+use Rattle.engines.specs.Calls.{Called, freshBookOf, zeroBookOf, setupTests, setUp, setupCall}
+use Rattle.engines.specs.OnList.{LaidOut, laidOut, layOutOf}
+use Rattle.xor.specs.Engine.{xor}
+use Rattle.xor.specs.Ten.{setupOf}
+
+module _ (links values : List ℕ) (lists : ℕ) (shares limits : List ℕ) where
+  abbrev call : Called xor
+  call = setupCall xor mostLists links values lists shares limits
+
+  -- which book goes with which number
+  book-of : (r : ℕ) (book : Book) → r ≡ call .number → (r ≢ 0 → book ≡ zeroBook) → (r ≡ 0 → book ≡ bookOf (freshBookOf mostLists lists shares limits)) → book ≡ bookOf (call .book)
+  unfolding setupCall
+  book-of r book e f g = go (ℕ-discrete (firstThat (setupTests xor mostLists links values lists shares limits)) 0)
+    where
+      refused : ℕ → Called xor
+      refused n = record { number = n; value = 0; book = zeroBookOf mostLists; links = links; values = values }
+
+      go : Dec (firstThat (setupTests xor mostLists links values lists shares limits) ≡ 0) → book ≡ bookOf (call .book)
+      go (yes z) =
+          let d = decided-done (setUp xor mostLists links values lists shares limits) refused (setupTests xor mostLists links values lists shares limits) z in
+          g (e ∙ ap (λ (x : Called xor). x .number) d) ∙ sym (ap (λ (x : Called xor). bookOf (x .book)) d)
+      go (no n) =
+          let d = decided-refused (setUp xor mostLists links values lists shares limits) refused (setupTests xor mostLists links values lists shares limits) n in
+          f (λ z. n (sym (ap (λ (x : Called xor). x .number) d) ∙ sym e ∙ z)) ∙ sym (ap (λ (x : Called xor). bookOf (x .book)) d)
+
+  pub setup-whole : {r : ℕ} {l v : List ℕ} (book : Book) → laidOut {E = xor} r l v ≡ layOutOf xor mostLists links values lists shares limits
+      → (r ≢ 0 → book ≡ zeroBook) → (r ≡ 0 → book ≡ bookOf (freshBookOf mostLists lists shares limits))
+      → outcome (record { refusal = record { number = r }; book = book }) l v ≡ setupOf links values lists shares limits
+  setup-whole {r} {l} {v} book q f g =
+      ap (λ (b : Book). outcome (record { refusal = record { number = r }; book = b }) l v) (book-of r book (ap (λ (x : LaidOut xor). x .number) q) f g)
+      ∙ ap (λ (x : LaidOut xor). outcome (record { refusal = record { number = x .number }; book = bookOf (call .book) }) (x .links) (x .values)) q

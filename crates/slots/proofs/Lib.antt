@@ -1,2 +1,0 @@
--- What the proofs of the code of the slots share.
-pub mod Idle

@@ -1,2 +1,0 @@
--- What the code of the slots asks for beside the definitions below it.
-pub mod Walk
