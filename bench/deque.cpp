@@ -1,4 +1,4 @@
-// A queue as a std::deque, for bench/count.c: a value is wiped by a store that the compiler cannot drop before it is popped. It
+// A queue as a std::deque, for bench/queue.c: a value is wiped by a store that the compiler cannot drop before it is popped. It
 // checks nothing, and has no limit but the heap's.
 #include <deque>
 
@@ -24,7 +24,7 @@ uint64_t queue_pop(int queue)
     return value;
 }
 
-void queue_fill(int queue, size_t, size_t held, uint16_t)
+void queue_fill(int queue, size_t held)
 {
     for (size_t i = 1; i <= held; i++)
         queue_push(queue, i);
@@ -41,5 +41,3 @@ void queue_clear(int queue)
         wipe(value);
     queues[queue].clear();
 }
-
-void queue_check(int) {}

@@ -1,4 +1,4 @@
-/* A queue as a doubly linked list on the heap, for bench/count.c: a node for each value, wiped by a store that the compiler
+/* A queue as a doubly linked list on the heap, for bench/queue.c: a node for each value, wiped by a store that the compiler
  * cannot drop, then freed. It checks nothing, and has no limit but the heap's. */
 #include <stdlib.h>
 
@@ -49,10 +49,8 @@ uint64_t queue_pop(int queue)
     return value;
 }
 
-void queue_fill(int queue, size_t n, size_t held, uint16_t lists)
+void queue_fill(int queue, size_t held)
 {
-    (void)n;
-    (void)lists;
     for (size_t i = 1; i <= held; i++)
         queue_push(queue, i);
 }
@@ -66,9 +64,4 @@ void queue_clear(int queue)
 {
     while (lists[queue].first != NULL)
         (void)queue_pop(queue);
-}
-
-void queue_check(int queue)
-{
-    (void)queue;
 }

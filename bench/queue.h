@@ -1,5 +1,5 @@
-/* What bench/count.c asks of a way to keep queues: a pool of Flailreeve (bench/pool.c), a heap list (bench/heap.c) or std::deque
- * (bench/deque.cpp). Queue numbers are 0 to 15, so that a queue can be cleared as often as it is counted. */
+/* What bench/queue.c asks of a way to keep queues: a heap list (bench/heap.c), std::deque (bench/deque.cpp), or nothing at all
+ * (bench/nothing.c). Queue numbers are 0 to 15, so that there is a queue for each time that a clear is counted. */
 #ifndef QUEUE_H
 #define QUEUE_H
 
@@ -12,13 +12,11 @@ extern "C" {
 
 enum { QUEUES = 16 };
 
-/* A queue in room for n that holds 1, 2, .. held; in a pool one of so many lists, the others empty. */
-void queue_fill(int queue, size_t n, size_t held, uint16_t lists);
-void queue_push(int queue, uint64_t value);        /* at the back */
-uint64_t queue_pop(int queue);                     /* at the front */
+void queue_fill(int queue, size_t held);    /* an empty queue gets 1, 2, .. held */
+void queue_push(int queue, uint64_t value); /* at the back */
+uint64_t queue_pop(int queue);              /* at the front */
 size_t queue_length(int queue);
 void queue_clear(int queue);
-void queue_check(int queue); /* nothing, where there is no check */
 
 #ifdef __cplusplus
 }

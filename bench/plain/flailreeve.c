@@ -1,221 +1,180 @@
-/* The ten calls in plain C, as a firmware engineer would write them: what the archive's cost is held against, and what the
- * faults of tests/c are planted in. */
+/* The ten calls in plain C, as a careful firmware engineer would write them: what the archive's cost is held against, and what
+ * the faults of tests/c are planted in. The check is one pass over the pool and hands on what it found in registers; a call
+ * stores to no cell twice, and clears nothing that it writes anyway. */
 #include "flailreeve.h"
 
 #include <stdbool.h>
 #include <string.h>
 
-/* What the check gathers on its one pass over a pool. */
+/* What a look at the pool found. It is two machine words, so that it is handed back in registers. */
 struct found {
-    size_t length; /* of the list that was asked for */
-    size_t lacks;  /* what the lists lack of their shares, together */
-    size_t free;   /* free slots */
+    size_t number;   /* 0, or why the call is refused: 1, 3 or 4 */
+    uint32_t length; /* of the list that was asked for */
+    uint32_t spare;  /* free slots beyond those that lists still lack of their shares */
 };
 
 enum end { FRONT, BACK };
+
+/* What the book has from entry L on. */
+static const struct flailreeve_list no_list;
 
 static bool sizes_fit(size_t links_len, size_t values_len)
 {
     return links_len == values_len && links_len >= FLAILREEVE_SMALLEST_POOL && links_len <= FLAILREEVE_LARGEST_POOL;
 }
 
-/* The rules of the book: L, shares and limits; entries from L on are all 0. */
-static bool keeps_rules(const struct flailreeve_book *book, size_t n)
+static struct found refused(size_t number)
 {
-    size_t shares = 0;
-
-    if (book->lists < 1 || book->lists > FLAILREEVE_BOOK_LISTS)
-        return false;
-    for (size_t k = 0; k < book->lists; k++) {
-        const struct flailreeve_list *list = &book->list[k];
-
-        if (list->share > list->limit || list->limit > n - 1)
-            return false;
-        shares += list->share;
-    }
-    for (size_t k = book->lists; k < FLAILREEVE_BOOK_LISTS; k++) {
-        const struct flailreeve_list *list = &book->list[k];
-
-        if (list->head != 0 || list->tail != 0 || list->share != 0 || list->limit != 0)
-            return false;
-    }
-    return shares <= n - 1;
+    return (struct found){number, 0, 0};
 }
 
-/* Walks a list from its head and marks its slots. False where a slot is past the pool or was met before, or where the
- * last slot is not the tail. */
-static bool walk_list(const uint16_t *links, size_t n, uint8_t *met, const struct flailreeve_list *list, size_t *length)
+/* Checks the pool in one pass over the book, the lists and the free slots, and then the list number. The walks stand here and not
+ * in functions of their own: gcc reaches a local array in fewer instructions than one that is handed on by a pointer. */
+static struct found look(const uint16_t *links, size_t links_len, const uint64_t *values, size_t values_len,
+                         const struct flailreeve_book *book, uint16_t wanted)
 {
-    size_t many = 0;
-    size_t last = 0;
-    size_t slot = list->head;
+    uint8_t met[FLAILREEVE_LARGEST_POOL]; /* for each slot 1 where a list has it */
+    uint16_t lengths[FLAILREEVE_BOOK_LISTS];
+    size_t n = links_len;
+    size_t left = n - 1; /* slots that no list has: so many must be free */
+    size_t taken = 0;    /* slots that the lists have, or still lack of their shares */
+    size_t k, slot;
 
-    while (slot != 0) {
-        size_t next;
+    if (!sizes_fit(links_len, values_len))
+        return refused(FLAILREEVE_SIZES);
+    if (book->lists < 1 || book->lists > FLAILREEVE_BOOK_LISTS || links[0] != 0 || values[0] != 0)
+        return refused(FLAILREEVE_UNSOUND);
+    memset(met, 0, n);
+    met[0] = 1; /* so that free slots that end too early are refused */
+    for (k = 0; k < book->lists; k++) {
+        const struct flailreeve_list *list = &book->list[k];
+        size_t length = 0;
+        size_t last = 0;
+        size_t takes;
 
-        if (slot >= n || met[slot])
-            return false;
-        met[slot] = 1;
-        many++;
-        next = links[slot] ^ last;
-        last = slot;
-        slot = next;
+        slot = list->head;
+        while (last != list->tail) {
+            size_t next;
+
+            if (slot >= n || met[slot])
+                return refused(FLAILREEVE_UNSOUND);
+            met[slot] = 1;
+            length++;
+            next = links[slot] ^ last;
+            last = slot;
+            slot = next;
+        }
+        takes = length > list->share ? length : list->share;
+        if (slot != 0 || takes > list->limit || list->limit >= n)
+            return refused(FLAILREEVE_UNSOUND);
+        left -= length;
+        taken += takes;
+        lengths[k] = (uint16_t)length;
     }
-    *length = many;
-    return last == list->tail;
-}
-
-/* Walks the free slots and marks them. False where a slot is past the pool, was met before or is not wiped. */
-static bool walk_free(const uint16_t *links, const uint64_t *values, size_t n, uint8_t *met, uint16_t head, size_t *length)
-{
-    size_t many = 0;
-    size_t slot = head;
-
-    while (slot != 0) {
+    for (; k < FLAILREEVE_BOOK_LISTS; k++)
+        if (memcmp(&book->list[k], &no_list, sizeof no_list) != 0)
+            return refused(FLAILREEVE_UNSOUND);
+    /* Free slots need no mark: if the walk came to one twice it would go round, and not be at 0 after the last. */
+    slot = book->free_head;
+    for (; left > 0; left--) {
         if (slot >= n || met[slot] || values[slot] != 0)
-            return false;
-        met[slot] = 1;
-        many++;
+            return refused(FLAILREEVE_UNSOUND);
         slot = links[slot];
     }
-    *length = many;
-    return true;
+    /* More than N-1 are taken where the free slots do not cover what is lacked, and where the shares add up to more. */
+    if (slot != 0 || taken >= n)
+        return refused(FLAILREEVE_UNSOUND);
+    if (wanted >= book->lists)
+        return refused(FLAILREEVE_NO_LIST);
+    return (struct found){FLAILREEVE_DONE, lengths[wanted], (uint32_t)(n - 1 - taken)};
 }
 
-/* One pass over the lists and the free slots: is every slot accounted for once, and do the shares and limits hold? */
-static bool is_sound(const uint16_t *links, const uint64_t *values, size_t n, const struct flailreeve_book *book,
-                     uint16_t wanted, struct found *found)
+/* The rules of the book, for what setup is handed: L, shares and limits; from L on all are 0. */
+static bool keeps_rules(uint16_t lists, const uint16_t shares[8], const uint16_t limits[8], size_t n)
 {
-    uint8_t met[FLAILREEVE_LARGEST_POOL];
-    size_t live = 0;
+    size_t sum = 0;
+    size_t k;
 
-    if (!keeps_rules(book, n) || links[0] != 0 || values[0] != 0)
+    if (lists < 1 || lists > FLAILREEVE_BOOK_LISTS)
         return false;
-    memset(met, 0, n);
-    found->length = 0;
-    found->lacks = 0;
-    for (size_t k = 0; k < book->lists; k++) {
-        const struct flailreeve_list *list = &book->list[k];
-        size_t length;
-
-        if (!walk_list(links, n, met, list, &length) || length > list->limit)
+    for (k = 0; k < lists; k++) {
+        if (shares[k] > limits[k] || limits[k] >= n)
             return false;
-        live += length;
-        if (length < list->share)
-            found->lacks += list->share - length;
-        if (k == wanted)
-            found->length = length;
+        sum += shares[k];
     }
-    if (!walk_free(links, values, n, met, book->free_head, &found->free))
-        return false;
-    return live + found->free == n - 1 && found->lacks <= found->free;
-}
-
-/* 1 or 3, or 0 with what the check found. */
-static uint16_t look(const uint16_t *links, size_t links_len, const uint64_t *values, size_t values_len,
-                     const struct flailreeve_book *book, uint16_t wanted, struct found *found)
-{
-    if (!sizes_fit(links_len, values_len))
-        return FLAILREEVE_SIZES;
-    if (!is_sound(links, values, links_len, book, wanted, found))
-        return FLAILREEVE_UNSOUND;
-    return FLAILREEVE_DONE;
-}
-
-/* 1, 3 or 4, or 0 with what the check found. */
-static uint16_t look_at_list(const uint16_t *links, size_t links_len, const uint64_t *values, size_t values_len,
-                             const struct flailreeve_book *book, uint16_t list, struct found *found)
-{
-    uint16_t number = look(links, links_len, values, values_len, book, list, found);
-
-    if (number == FLAILREEVE_DONE && list >= book->lists)
-        return FLAILREEVE_NO_LIST;
-    return number;
+    for (; k < FLAILREEVE_BOOK_LISTS; k++)
+        if ((shares[k] | limits[k]) != 0)
+            return false;
+    return sum < n;
 }
 
 uint16_t flailreeve_setup(uint16_t *links, size_t links_len, uint64_t *values, size_t values_len, uint16_t lists,
                           const uint16_t shares[8], const uint16_t limits[8], struct flailreeve_book *book)
 {
-    struct flailreeve_book made;
+    size_t k;
 
     if (!sizes_fit(links_len, values_len))
         return FLAILREEVE_SIZES;
-    memset(&made, 0, sizeof made);
-    made.lists = lists;
-    for (size_t k = 0; k < FLAILREEVE_BOOK_LISTS; k++) {
-        made.list[k].share = shares[k];
-        made.list[k].limit = limits[k];
-    }
-    made.free_head = 1;
-    if (!keeps_rules(&made, links_len))
+    if (!keeps_rules(lists, shares, limits, links_len))
         return FLAILREEVE_RULES;
+    book->lists = lists;
+    for (k = 0; k < lists; k++)
+        book->list[k] = (struct flailreeve_list){0, 0, shares[k], limits[k]};
+    for (; k < FLAILREEVE_BOOK_LISTS; k++)
+        book->list[k] = no_list;
+    book->free_head = 1;
     links[0] = 0;
-    for (size_t slot = 1; slot < links_len; slot++)
+    for (size_t slot = 1; slot < links_len - 1; slot++)
         links[slot] = (uint16_t)(slot + 1);
     links[links_len - 1] = 0;
     memset(values, 0, values_len * sizeof *values);
-    *book = made;
     return FLAILREEVE_DONE;
 }
 
 uint16_t flailreeve_check(const uint16_t *links, size_t links_len, const uint64_t *values, size_t values_len,
                           const struct flailreeve_book *book)
 {
-    struct found found;
-
-    return look(links, links_len, values, values_len, book, 0, &found);
+    /* Every sound book has a list 0, so 4 is never the answer. */
+    return (uint16_t)look(links, links_len, values, values_len, book, 0).number;
 }
 
 uint16_t flailreeve_length(const uint16_t *links, size_t links_len, const uint64_t *values, size_t values_len,
                            const struct flailreeve_book *book, uint16_t list, uint16_t *length)
 {
-    struct found found;
-    uint16_t number = look_at_list(links, links_len, values, values_len, book, list, &found);
+    struct found found = look(links, links_len, values, values_len, book, list);
 
-    *length = 0;
-    if (number == FLAILREEVE_DONE)
-        *length = (uint16_t)found.length;
-    return number;
-}
-
-/* 6 or 7 for a push on a list, or 0. */
-static uint16_t push_number(const struct flailreeve_list *list, const struct found *found)
-{
-    if (found->length == list->limit)
-        return FLAILREEVE_LIMIT;
-    if (found->length >= list->share && found->free <= found->lacks)
-        return FLAILREEVE_KEPT;
-    return FLAILREEVE_DONE;
+    *length = found.number == FLAILREEVE_DONE ? (uint16_t)found.length : 0;
+    return (uint16_t)found.number;
 }
 
 /* The slot at the free head becomes an end of the list. */
-static void link_slot(uint16_t *links, struct flailreeve_book *book, struct flailreeve_list *list, enum end end)
+static inline uint16_t push(uint16_t *links, size_t links_len, uint64_t *values, size_t values_len,
+                            struct flailreeve_book *book, uint16_t list, uint64_t value, enum end end)
 {
-    uint16_t slot = book->free_head;
-    uint16_t *near_end = end == FRONT ? &list->head : &list->tail;
-    uint16_t neighbour = *near_end;
+    struct found found = look(links, links_len, values, values_len, book, list);
+    struct flailreeve_list *to;
+    uint16_t *near_end, *far_end;
+    uint16_t slot, neighbour;
 
+    if (found.number != FLAILREEVE_DONE)
+        return (uint16_t)found.number;
+    to = &book->list[list];
+    if (found.length == to->limit)
+        return FLAILREEVE_LIMIT;
+    if (found.length >= to->share && found.spare == 0)
+        return FLAILREEVE_KEPT;
+    near_end = end == FRONT ? &to->head : &to->tail;
+    far_end = end == FRONT ? &to->tail : &to->head;
+    slot = book->free_head;
+    neighbour = *near_end;
     book->free_head = links[slot];
+    values[slot] = value;
     links[slot] = neighbour;
     *near_end = slot;
     if (neighbour != 0)
         links[neighbour] ^= slot;
     else
-        list->head = list->tail = slot;
-}
-
-static uint16_t push(uint16_t *links, size_t links_len, uint64_t *values, size_t values_len, struct flailreeve_book *book,
-                     uint16_t list, uint64_t value, enum end end)
-{
-    struct found found;
-    uint16_t number = look_at_list(links, links_len, values, values_len, book, list, &found);
-
-    if (number == FLAILREEVE_DONE)
-        number = push_number(&book->list[list], &found);
-    if (number != FLAILREEVE_DONE)
-        return number;
-    values[book->free_head] = value;
-    link_slot(links, book, &book->list[list], end);
+        *far_end = slot;
     return FLAILREEVE_DONE;
 }
 
@@ -231,38 +190,35 @@ uint16_t flailreeve_push_front(uint16_t *links, size_t links_len, uint64_t *valu
     return push(links, links_len, values, values_len, book, list, value, FRONT);
 }
 
-/* The slot at an end of the list leaves it, is wiped and becomes the free head. Returns what it held. */
-static uint64_t take_out(uint16_t *links, uint64_t *values, struct flailreeve_book *book, struct flailreeve_list *list,
-                         enum end end)
+/* The slot at an end of the list leaves it, is wiped and becomes the free head. */
+static inline uint16_t pop(uint16_t *links, size_t links_len, uint64_t *values, size_t values_len,
+                           struct flailreeve_book *book, uint16_t list, uint64_t *value, enum end end)
 {
-    uint16_t *near_end = end == FRONT ? &list->head : &list->tail;
-    uint16_t slot = *near_end;
-    uint16_t neighbour = links[slot];
-    uint64_t held = values[slot];
+    struct found found = look(links, links_len, values, values_len, book, list);
+    struct flailreeve_list *from;
+    uint16_t *near_end, *far_end;
+    uint16_t slot, neighbour;
 
+    if (found.number == FLAILREEVE_DONE && found.length == 0)
+        found.number = FLAILREEVE_EMPTY;
+    if (found.number != FLAILREEVE_DONE) {
+        *value = 0;
+        return (uint16_t)found.number;
+    }
+    from = &book->list[list];
+    near_end = end == FRONT ? &from->head : &from->tail;
+    far_end = end == FRONT ? &from->tail : &from->head;
+    slot = *near_end;
+    neighbour = links[slot];
     *near_end = neighbour;
     if (neighbour != 0)
         links[neighbour] ^= slot;
     else
-        list->head = list->tail = 0;
+        *far_end = 0;
+    *value = values[slot];
     values[slot] = 0;
     links[slot] = book->free_head;
     book->free_head = slot;
-    return held;
-}
-
-static uint16_t pop(uint16_t *links, size_t links_len, uint64_t *values, size_t values_len, struct flailreeve_book *book,
-                    uint16_t list, uint64_t *value, enum end end)
-{
-    struct found found;
-    uint16_t number = look_at_list(links, links_len, values, values_len, book, list, &found);
-
-    *value = 0;
-    if (number == FLAILREEVE_DONE && found.length == 0)
-        number = FLAILREEVE_EMPTY;
-    if (number != FLAILREEVE_DONE)
-        return number;
-    *value = take_out(links, values, book, &book->list[list], end);
     return FLAILREEVE_DONE;
 }
 
@@ -278,25 +234,26 @@ uint16_t flailreeve_pop_front(uint16_t *links, size_t links_len, uint64_t *value
     return pop(links, links_len, values, values_len, book, list, value, FRONT);
 }
 
-static uint16_t read(const uint16_t *links, size_t links_len, const uint64_t *values, size_t values_len,
-                     const struct flailreeve_book *book, uint16_t list, uint64_t *out, size_t out_len, size_t at,
-                     uint16_t *count, enum end from)
+/* Copies the list from one end to the other. */
+static inline uint16_t read(const uint16_t *links, size_t links_len, const uint64_t *values, size_t values_len,
+                            const struct flailreeve_book *book, uint16_t list, uint64_t *out, size_t out_len, size_t at,
+                            uint16_t *count, enum end from)
 {
-    struct found found;
-    uint16_t number = look_at_list(links, links_len, values, values_len, book, list, &found);
-    uint16_t last = 0;
-    uint16_t slot;
+    struct found found = look(links, links_len, values, values_len, book, list);
+    size_t last = 0;
+    size_t slot;
 
-    *count = 0;
-    if (number == FLAILREEVE_DONE && (at > out_len || out_len - at < found.length))
-        number = FLAILREEVE_BUFFER;
-    if (number != FLAILREEVE_DONE)
-        return number;
+    if (found.number == FLAILREEVE_DONE && (at > out_len || out_len - at < found.length))
+        found.number = FLAILREEVE_BUFFER;
+    if (found.number != FLAILREEVE_DONE) {
+        *count = 0;
+        return (uint16_t)found.number;
+    }
     slot = from == FRONT ? book->list[list].head : book->list[list].tail;
-    while (slot != 0) {
-        uint16_t next = links[slot] ^ last;
+    for (size_t i = 0; i < found.length; i++) {
+        size_t next = links[slot] ^ last;
 
-        out[at++] = values[slot];
+        out[at + i] = values[slot];
         last = slot;
         slot = next;
     }
@@ -318,15 +275,31 @@ uint16_t flailreeve_read_backward(const uint16_t *links, size_t links_len, const
     return read(links, links_len, values, values_len, book, list, out, out_len, at, count, BACK);
 }
 
+/* Pops at the front would free the first slot first. So the last slot becomes the free head, each slot is linked to the one
+ * before it in the list, and the first slot to the free head of before. */
 uint16_t flailreeve_clear(uint16_t *links, size_t links_len, uint64_t *values, size_t values_len,
                           struct flailreeve_book *book, uint16_t list)
 {
-    struct found found;
-    uint16_t number = look_at_list(links, links_len, values, values_len, book, list, &found);
+    struct found found = look(links, links_len, values, values_len, book, list);
+    struct flailreeve_list *from;
+    size_t slot, first, last = 0;
 
-    if (number != FLAILREEVE_DONE)
-        return number;
-    while (book->list[list].head != 0)
-        (void)take_out(links, values, book, &book->list[list], FRONT);
+    if (found.number != FLAILREEVE_DONE || found.length == 0)
+        return (uint16_t)found.number;
+    from = &book->list[list];
+    first = from->head;
+    slot = from->tail;
+    while (slot != first) {
+        size_t before = links[slot] ^ last;
+
+        links[slot] = (uint16_t)before;
+        values[slot] = 0;
+        last = slot;
+        slot = before;
+    }
+    links[first] = book->free_head;
+    values[first] = 0;
+    book->free_head = from->tail;
+    from->head = from->tail = 0;
     return FLAILREEVE_DONE;
 }
