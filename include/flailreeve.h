@@ -25,15 +25,17 @@
  * - No two buffers of one call overlap; `length`, `value`, `count` and the book are buffers too.
  * - No other thread and no interrupt handler touches these buffers while the call runs. Calls on different pools may run
  *   at the same time: nothing is shared.
- * - There is stack enough: a call uses up to 5 KiB (docs/SPEED.md has the bytes of each).
+ * - There is stack enough: a call uses up to 4.5 KiB (docs/SPEED.md has the bytes of each).
  * WHAT THE CALLER DOES NOT OWE. What the cells and the book hold may be anything: every call but setup checks the whole pool
  * before it acts, in time in proportion to N, and refuses by 3 one that is not sound. Damage that leaves it sound, as another
  * value in a list's slot, is not seen. List numbers, places and values may be anything too. Every call ends.
  *
  * WHAT IS LEFT TO THE FIRMWARE TO WIPE. The value that it hands to a push, in its own variables and, it being the seventh
- * argument, on its own stack; a value that a pop hands out; the copies that a read writes; registers; and the dead stack
- * below the caller, where a push or a pop may leave a copy of the value (docs/SPEED.md has the count). Setup, check, length,
- * the reads and clear leave none there, but one that an earlier push or pop left may stay. This is measured, not proved. */
+ * argument, on its own stack; a value that a pop hands out; the copies that a read writes; and registers: after a done push or
+ * pop one register that a call may change still holds the value (docs/SPEED.md says which), until something else is put
+ * there. In the dead stack below the caller no call, done or refused, leaves a copy of a block that it was lent or handed.
+ * But a call saves there the registers that it must keep for its caller (rbx, rbp, r12 to r15), so a block that the caller
+ * itself has in one of them is left there too. This is measured on the compiled archive, at every byte, and not proved. */
 #ifndef FLAILREEVE_H
 #define FLAILREEVE_H
 

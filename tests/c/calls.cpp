@@ -129,7 +129,7 @@ static void after_damage(Dice &dice, model::Memory &m, std::size_t length)
     touched++;
 }
 
-// Every word and value of a pool is changed in turn, to neighbouring, far and random numbers.
+// Every word and value of a pool is changed in turn: each of its bits by itself, and words to neighbouring, far and random numbers.
 static void each_word(Dice &dice, const model::Queues &q, model::Memory &m)
 {
     std::size_t n = m.links.size();
@@ -144,12 +144,16 @@ static void each_word(Dice &dice, const model::Queues &q, model::Memory &m)
             if (other != kept) {
                 *word = other;
                 after_damage(dice, m, longest(q));
-                *word = kept;
             }
+        for (unsigned bit = 0; bit < 16; bit++) {
+            *word = static_cast<std::uint16_t>(kept ^ (1u << bit));
+            after_damage(dice, m, longest(q));
+        }
+        *word = kept;
     }
     for (std::size_t slot = 0; slot < n; slot++) {
         std::uint64_t kept = m.values[slot];
-        for (unsigned bit : {0, 15, 31, 32, 63}) {
+        for (unsigned bit = 0; bit < 64; bit++) {
             m.values[slot] = kept ^ (std::uint64_t{1} << bit);
             after_damage(dice, m, longest(q));
         }
@@ -171,10 +175,28 @@ static void some_words(Dice &dice, const model::Queues &q, const model::Memory &
     }
 }
 
+// A pool with one empty list that may have nothing, and then with no list: all else is as a sound pool has it.
+static void no_list(Dice &dice, model::Memory &m)
+{
+    for (std::size_t n = 2; n < 9; n++) {
+        model::Ask ask;
+        model::Queues q;
+        ask.call = model::setup;
+        ask.lists = 1;
+        m.links.assign(n, 0);
+        m.values.assign(n, 0);
+        model::set_up(ask, m, q);
+        model::write_down(q, m);
+        m.book.lists = 0;
+        after_damage(dice, m, 0);
+    }
+}
+
 static void damage()
 {
     Dice dice(3);
     model::Memory m;
+    no_list(dice, m);
     for (unsigned i = 0; i < 120; i++) {
         model::Queues q = model::random_queues(dice, dice.from(2, 9));
         model::write_down(q, m);

@@ -1,16 +1,29 @@
-// Runs a call of the library on a stack of its own, painted before, so that all that the call leaves there can be looked at.
+// Runs a call of the library on a stack of its own, painted before, so that all that the call leaves there and in the registers
+// can be looked at.
 #pragma once
 
+#include <algorithm>
 #include <cstdint>
 #include <cstring>
 
 #include "model.hpp"
 
-// Calls fn(argument[0], .., argument[9]) with the stack pointer at top, and comes back. Four arguments lie on that stack, as
-// the calling convention of x86-64 has it; the rest are in registers. fn may take fewer than ten; it does not look at the
-// others. The registers that fn has to keep are cleared before, since it saves them on its stack, and a caller may have had the
-// block in one.
-extern "C" std::uint16_t call_on_stack(void *top, const void *fn, const std::uint64_t *argument);
+// The registers that a call need not keep, as they are when it returns.
+struct Registers {
+    static constexpr int general = 9, all = 25;
+    static constexpr const char *names[all] = {"rax",  "rcx",  "rdx",  "rsi",  "rdi",   "r8",    "r9",    "r10",   "r11",
+                                               "xmm0", "xmm1", "xmm2", "xmm3", "xmm4",  "xmm5",  "xmm6",  "xmm7",  "xmm8",
+                                               "xmm9", "xmm10", "xmm11", "xmm12", "xmm13", "xmm14", "xmm15"};
+    std::uint64_t word[general];
+    std::uint64_t pair[all - general][2];
+};
+static_assert(sizeof(Registers) == 328, "call_on_stack writes so many bytes");
+
+// Calls fn(argument[0], .., argument[9]) with the stack pointer at top, writes down the registers, and comes back. Four arguments
+// lie on that stack, as the calling convention of x86-64 has it; the rest are in registers. fn may take fewer than ten; it does
+// not look at the others. The registers that fn has to keep are cleared before, since it saves them on its stack, and a caller
+// may have had the block in one. The others are cleared too, so that what is found there afterwards fn has left.
+extern "C" std::uint16_t call_on_stack(void *top, const void *fn, const std::uint64_t *argument, Registers *after);
 __asm__(
     ".text\n"
     ".globl call_on_stack\n"
@@ -22,27 +35,46 @@ __asm__(
     "    push %r13\n"
     "    push %r14\n"
     "    push %r15\n"
+    "    push %rcx\n"
     "    mov %rsp, %rbp\n"
     "    xor %ebx, %ebx\n"
     "    xor %r12d, %r12d\n"
     "    xor %r13d, %r13d\n"
     "    xor %r14d, %r14d\n"
     "    xor %r15d, %r15d\n"
+    "    .irp n, 0,1,2,3,4,5,6,7,8,9,10,11,12,13,14,15\n"
+    "    pxor %xmm\\n, %xmm\\n\n"
+    "    .endr\n"
     "    mov %rdi, %rsp\n"
-    "    mov %rsi, %rax\n"
-    "    mov %rdx, %r10\n"
-    "    push 72(%r10)\n"
-    "    push 64(%r10)\n"
-    "    push 56(%r10)\n"
-    "    push 48(%r10)\n"
-    "    mov 40(%r10), %r9\n"
-    "    mov 32(%r10), %r8\n"
-    "    mov 24(%r10), %rcx\n"
-    "    mov 16(%r10), %rdx\n"
-    "    mov 8(%r10), %rsi\n"
-    "    mov (%r10), %rdi\n"
-    "    call *%rax\n"
-    "    mov %rbp, %rsp\n"
+    "    mov %rsi, %r11\n"
+    "    mov %rdx, %rax\n"
+    "    push 72(%rax)\n"
+    "    push 64(%rax)\n"
+    "    push 56(%rax)\n"
+    "    push 48(%rax)\n"
+    "    mov 40(%rax), %r9\n"
+    "    mov 32(%rax), %r8\n"
+    "    mov 24(%rax), %rcx\n"
+    "    mov 16(%rax), %rdx\n"
+    "    mov 8(%rax), %rsi\n"
+    "    mov (%rax), %rdi\n"
+    "    xor %eax, %eax\n"
+    "    xor %r10d, %r10d\n"
+    "    call *%r11\n"
+    "    mov (%rbp), %rbx\n"
+    "    mov %rax, (%rbx)\n"
+    "    mov %rcx, 8(%rbx)\n"
+    "    mov %rdx, 16(%rbx)\n"
+    "    mov %rsi, 24(%rbx)\n"
+    "    mov %rdi, 32(%rbx)\n"
+    "    mov %r8, 40(%rbx)\n"
+    "    mov %r9, 48(%rbx)\n"
+    "    mov %r10, 56(%rbx)\n"
+    "    mov %r11, 64(%rbx)\n"
+    "    .irp n, 0,1,2,3,4,5,6,7,8,9,10,11,12,13,14,15\n"
+    "    movups %xmm\\n, 72+16*\\n(%rbx)\n"
+    "    .endr\n"
+    "    lea 8(%rbp), %rsp\n"
     "    pop %r15\n"
     "    pop %r14\n"
     "    pop %r13\n"
@@ -51,6 +83,23 @@ __asm__(
     "    pop %rbp\n"
     "    ret\n"
     ".size call_on_stack, . - call_on_stack\n");
+
+// How often the block lies in memory, at any place, aligned or not. Half of a PIN block is half of a secret, so each half of 32
+// bits is looked for by itself, and the one that is there more often counts; a whole block has one of each. Nothing smaller is
+// looked for: 16 bits are met by chance.
+inline unsigned copies_in(const void *from, std::size_t many, std::uint64_t block)
+{
+    const unsigned char *at = static_cast<const unsigned char *>(from);
+    const std::uint32_t low = static_cast<std::uint32_t>(block), high = static_cast<std::uint32_t>(block >> 32);
+    unsigned lows = 0, highs = 0;
+    for (std::size_t i = 0; i + 4 <= many; i++) {
+        std::uint32_t here;
+        std::memcpy(&here, at + i, 4);
+        lows += here == low;
+        highs += here == high;
+    }
+    return std::max(lows, highs);
+}
 
 class Stack {
 public:
@@ -62,34 +111,27 @@ public:
         std::memset(bytes, color, sizeof bytes);
     }
 
-    std::uint16_t call(const void *fn, const std::uint64_t (&argument)[10])
+    std::uint16_t call(const void *fn, const std::uint64_t (&argument)[10], Registers &after)
     {
-        return call_on_stack(bytes + sizeof bytes, fn, argument);
+        std::uint16_t number = call_on_stack(bytes + sizeof bytes, fn, argument, &after);
+        lowest = 0;
+        while (lowest < sizeof bytes - arguments && bytes[lowest] == color)
+            lowest++;
+        return number;
     }
 
     // How deep the call went: from its return address down to the lowest byte that it changed.
-    std::size_t depth() const
-    {
-        std::size_t at = 0;
-        while (at < sizeof bytes && bytes[at] == color)
-            at++;
-        return sizeof bytes - arguments - at;
-    }
+    std::size_t depth() const { return sizeof bytes - arguments - lowest; }
 
-    // How often eight bytes lie in what the call has left, at any place, aligned or not.
-    unsigned count(std::uint64_t word) const { return count_in(bytes, sizeof bytes - arguments, word); }
-
-    static unsigned count_in(const void *from, std::size_t many, std::uint64_t word)
+    // How often the block lies in what the call has left; with its arguments, where it was not handed the block as one.
+    unsigned copies(std::uint64_t block, bool handed) const
     {
-        unsigned times = 0;
-        const unsigned char *at = static_cast<const unsigned char *>(from);
-        for (std::size_t i = 0; i + sizeof word <= many; i++)
-            times += std::memcmp(at + i, &word, sizeof word) == 0;
-        return times;
+        return copies_in(bytes + lowest, depth() + (handed ? 0 : arguments), block);
     }
 
 private:
     unsigned char color = 0;
+    std::size_t lowest = 0;
     alignas(16) unsigned char bytes[32768];
 };
 
@@ -97,6 +139,7 @@ private:
 struct Painted {
     model::Memory m;
     Stack stack;
+    Registers registers = {};
     std::uint64_t value = 0;
     std::uint16_t small = 0;
 
@@ -144,7 +187,7 @@ struct Painted {
         default:
             break;
         }
-        return stack.call(functions[ask.call], a);
+        return stack.call(functions[ask.call], a, registers);
     }
 
 private:
