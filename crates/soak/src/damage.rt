@@ -2,14 +2,29 @@
 use crate::desk::*;
 use crate::sound;
 
-// Another number: one more, one less, other bits, or a number about the pool's size.
-fn other(seed: u64, old: u64, size: u64) -> u64 {
-    let die = dice(seed, 20, 4);
+// Another number: one more, one less, other bits, or a number about the pool's size. A value has 64 bits, a link or a word 16: `all` has
+// a 1 for each. One bit alone may change, any of them.
+fn other(seed: u64, old: u64, size: u64, all: u64) -> u64 {
+    let die = dice(seed, 20, 5);
     match die {
-        0 => plus(old, 1) & 65535,
-        1 => minus(old, 1) & 65535,
-        2 => (old ^ dice(seed, 21, 65536)) & 65535,
+        0 => plus(old, 1) & all,
+        1 => minus(old, 1) & all,
+        2 => (old ^ dice(seed, 21, 65536)) & all,
+        3 => (old ^ one_bit(dice(seed, 27, 64))) & all,
         _ => dice(seed, 22, plus(size, 2)),
+    }
+}
+
+// The number whose one bit is bit k.
+fn one_bit(k: u64) -> u64 {
+    1 << (k % 64)
+}
+
+// All the bits of a cell of a row.
+fn bits_of(row: u64) -> u64 {
+    match row {
+        VALUES => 18446744073709551615,
+        _ => 65535,
     }
 }
 
@@ -26,7 +41,7 @@ fn place(seed: u64, row: u64, size: u64) -> u64 {
 fn hurt(desk: &mut Desk, seed: u64, size: u64) {
     let row = plus(LINKS, dice(seed, 25, 3));
     let place = place(seed, row, size);
-    let new = other(seed, get(desk, row, place), size);
+    let new = other(seed, get(desk, row, place), size, bits_of(row));
     sound::copy_pool(desk, LINKS, SAVED, size);
     set(desk, row, place, new);
     let state = sound::faults(desk, size);
