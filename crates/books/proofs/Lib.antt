@@ -8,3 +8,4 @@ pub mod Flat
 pub mod Fill
 pub mod Stored
 pub mod Table
+pub mod OneResult

@@ -1,8 +1,8 @@
--- Which of 6, 7 and 0 a push gets on a list of a sound pool, which of 5 and 0 a pop gets, and that no call on a sound pool gets 1 or 3, on any engine.
+-- Which of 6, 7 and 0 a push gets on a list of a sound pool, which of 5 and 0 a pop, which of 8 and 0 a read; that length and clear are done, and that no call on a sound pool gets 1 or 3; on any engine.
 use mathlib.Core.Path.{_≡_, refl, ap, subst}
 use mathlib.Core.Logic.{_↔_, _≢_, _⊎_, inl, inr}
 use mathlib.Core.List.{List, [], _∷_, _++_}
-use Prim.Native.Nat.{ℕ, _≤_, _<_}
+use Prim.Native.Nat.{ℕ, _+_, _≤_, _<_}
 use native.Mathlib.Decide.{ℕ-discrete, decLe}
 use native.Mathlib.Omega.{arith}
 use lib.ListN.{length, take}
@@ -16,11 +16,11 @@ use Rattle.shapes.proofs.Numbers.{given-only}
 use Rattle.engines.specs.Engine.{Engine}
 use Rattle.engines.specs.Sound.{Fit, SoundBook}
 use Rattle.engines.specs.Laws.{Lawful}
-use Rattle.engines.specs.Conditions.{OfShape, checkConditions, listConditions, pushConditions, popConditions}
-use Rattle.engines.specs.Calls.{pushCall, popCall}
+use Rattle.engines.specs.Conditions.{OfShape, checkConditions, listConditions, pushConditions, popConditions, readConditions}
+use Rattle.engines.specs.Calls.{lengthCall, pushCall, popCall, clearCall, readCall}
 use Rattle.engines.proofs.Shape.{unique-book}
 use Rattle.engines.proofs.Found.{entry-is, within}
-use Rattle.engines.proofs.When.{push-given, pop-given}
+use Rattle.engines.proofs.When.{length-given, push-given, pop-given, clear-given, read-given}
 
 -- ---- 1 and 3
 
@@ -158,3 +158,51 @@ module _ {E : Engine} (L : Lawful E) {links : E .Links} {values : List ℕ} {b :
         go : ((popNumber ≡ 5) × (many ≡ 0)) ⊎ ((popNumber ≡ 0) × (0 < many)) → popNumber ≡ 0 ↔ (0 < many)
         go (inl w) = omega arith
         go (inr w) = omega arith
+
+  -- ---- 8 and 0
+
+  module _ (end : End) (buffer : List ℕ) (at : ℕ) where
+    abbrev readNumber : ℕ
+    readNumber = readCall E links values b l end buffer at .answer .refusal .number
+
+    read-way : ((readNumber ≡ 8) × (length buffer < at + many)) ⊎ ((readNumber ≡ 0) × (at + many ≤ length buffer))
+    read-way = go (decLe (at + many) (length buffer))
+      where
+        gives : {k : ℕ} → Given (readConditions E links values b l (length buffer) at) k → readNumber ≡ k
+        gives g = given-only (read-given L links values b l end buffer at) g
+
+        -- 8's fact, of any shape
+        TooSmall : Shape → Type 0
+        TooSmall t = (length buffer < at) ⊎ (length buffer < at + length (chainAt t l))
+
+        fits : at + many ≤ length buffer → TooSmall s → ⊥
+        fits h (inl k) = omega arith
+        fits h (inr k) = omega arith
+
+        go : Dec (at + many ≤ length buffer) → ((readNumber ≡ 8) × (length buffer < at + many)) ⊎ ((readNumber ≡ 0) × (at + many ≤ length buffer))
+        go (yes h) = inr (gives (own-decides (N.later (λ o. fits h (of-this TooSmall o)) N.done)), h)
+        go (no h) = inl (gives (own-decides (N.this (s, S, inr (omega arith)))), omega arith)
+
+    -- 01: 8 "`at` past the buffer's end, or fewer than length places from `at`"
+    pub read-eight : readNumber ≡ 8 ↔ (length buffer < at + many)
+    read-eight = go read-way
+      where
+        go : ((readNumber ≡ 8) × (length buffer < at + many)) ⊎ ((readNumber ≡ 0) × (at + many ≤ length buffer)) → readNumber ≡ 8 ↔ (length buffer < at + many)
+        go (inl w) = omega arith
+        go (inr w) = omega arith
+
+    -- 0, where it has them
+    pub read-zero : readNumber ≡ 0 ↔ (at + many ≤ length buffer)
+    read-zero = go read-way
+      where
+        go : ((readNumber ≡ 8) × (length buffer < at + many)) ⊎ ((readNumber ≡ 0) × (at + many ≤ length buffer)) → readNumber ≡ 0 ↔ (at + many ≤ length buffer)
+        go (inl w) = omega arith
+        go (inr w) = omega arith
+
+  -- ---- length and clear have no number of their own
+
+  pub length-zero : lengthCall E links values b l .refusal .number ≡ 0
+  length-zero = given-only (length-given L links values b l) (own-decides N.done)
+
+  pub clear-zero : clearCall E links values b l .number ≡ 0
+  clear-zero = given-only (clear-given L links values b l) (own-decides N.done)

@@ -23,6 +23,8 @@ pub mod OnList
 pub mod Exactly
 pub mod Book
 pub mod Tight
+pub mod Directly
+pub mod OneResult
 pub mod After
 pub mod Popping
 pub mod Upstream

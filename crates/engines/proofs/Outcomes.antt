@@ -190,3 +190,13 @@ module _ {E : Engine} (L : Lawful E) (links : E .Links) (values : List ℕ) (b :
         (λ k z. let ((s, S, below), y) = past-list (readOwnTests (foundOf E links values b l .length) (length buffer) at) k in
         let (p, q) = placed (foundOf E links values b l .length) (length buffer) at y in
         (s, S, reads L S l below end buffer at (omega (arith, found-length L S l below))))
+
+    -- its values have their places in the buffer
+    pub read-room : readCall E links values b l end buffer at .answer .refusal .number ≡ 0 → at + readCall E links values b l end buffer at .answer .count ≤ length buffer
+    unfolding readCall
+    read-room =
+        decided-ind _ _ (λ (r : ReadLeft). r .answer .refusal .number ≡ 0 → at + r .answer .count ≤ length buffer) (readTests E links values b l (length buffer) at)
+        (λ k z. absurd (k z))
+        (λ k z. let ((s, S, below), y) = past-list (readOwnTests (foundOf E links values b l .length) (length buffer) at) k in
+        let (p, q) = placed (foundOf E links values b l .length) (length buffer) at y in
+        omega (arith, found-length L S l below, reads L S l below end buffer at (omega (arith, found-length L S l below)) .counted))

@@ -17,8 +17,10 @@ use Rattle.shapes.specs.Shape.{Shape, chainAt, put}
 use Rattle.shapes.specs.Setup.{freshShape}
 use Rattle.shapes.specs.Tests.{ReadLeft}
 use Rattle.shapes.specs.Changes.{OtherEntries, OtherLists}
+use Rattle.shapes.specs.Numbers.{Given}
 use Rattle.engines.specs.Engine.{Engine, Step}
 use Rattle.engines.specs.Sound.{SoundBook}
+use Rattle.engines.specs.Conditions.{setupConditions}
 use Rattle.engines.specs.Calls.{Called, zeroBookOf}
 
 -- 01: "equals popping the front until the list is empty", with no count: a list with no tail is empty,
@@ -49,6 +51,12 @@ pub record SetupKeeps (E : Engine) (places : ℕ) (links : E .Links) (lists : �
   pub freeHead : r .book .free .head ≡ 1
   pub sameSize : E .size (r .links) ≡ E .size links
   pub sound : SoundBook E (r .links) (r .values) (r .book) (freshShape (E .size links) lists)
+
+-- all that setup means: its number is 1 or 2 where 01 gives it, and else 0; refused or done, it leaves what the two records say
+pub record SetupMeans (E : Engine) (places : ℕ) (links : E .Links) (values : List ℕ) (lists : ℕ) (shares limits : List ℕ) (r : Called E) : Type 1 where
+  pub given : Given (setupConditions E links values places lists shares limits) (r .number)
+  pub refused : r .number ≢ 0 → SetupRefused E places links values r
+  pub done : r .number ≡ 0 → SetupKeeps E places links lists shares limits r
 
 module _ (E : Engine) (links : E .Links) (values : List ℕ) (b : AnyBook) where
   -- a refused call that may change the pool. 01: "A refused pop returns value 0"; "otherwise the book comes back as it went in. No lent slice changes"

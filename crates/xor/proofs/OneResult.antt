@@ -1,30 +1,32 @@
--- Two results that a promise allows are equal: said once for each kind of promise, and then of the ten calls.
-use mathlib.Core.Path.{_≡_, sym, ap, _∙_}
+-- Two results that a promise allows are equal: of the slot layer and of a read, and of the ten calls by name.
+use mathlib.Core.Path.{_≡_, refl, ap}
+use mathlib.Core.Bool.{true≢false}
 use mathlib.Core.List.{List}
 use Prim.Native.Nat.{ℕ}
 use Rattle.books.specs.declared.Book.{Book}
 use Rattle.books.specs.declared.Refusal.{Refusal}
-use Rattle.books.specs.Outcome.{Outcome, outcome}
+use Rattle.books.specs.Outcome.{outcome}
+use Rattle.books.proofs.OneResult.{one-answer, one-outcome}
 use Rattle.books.specs.declared.Answer.{Answer}
 use Rattle.books.specs.declared.Popped.{Popped}
 use Rattle.books.specs.declared.Length.{Length}
 use Rattle.books.specs.declared.Read.{Read}
+use Rattle.books.specs.declared.Free.{Free}
+use Rattle.shapes.specs.declared.Taken.{Taken}
+use Rattle.shapes.specs.declared.Taken.the-variants.{Slot, Nothing}
+use Rattle.xor.specs.Slots.{Said, saidBy}
 use Rattle.xor.specs.Ten.{setupOf, checkOf, lengthOf, pushBackOf, pushFrontOf, popBackOf, popFrontOf, readForwardOf, readBackwardOf, clearOf}
 use Rattle.shapes.specs.Tests.{ReadLeft, readLeft}
 
--- an answer alone
-one-answer : {A : Type 0} {o r r′ : A} → r ≡ o → r′ ≡ o → r ≡ r′
-one-answer e f = e ∙ sym f
+-- the slot layer's answer is an enum: what it says leaves no choice between its cases
+pub taken-one : (free : Free) {o : Said} (r r′ : Taken) → saidBy free r ≡ o → saidBy free r′ ≡ o → r ≡ r′
+taken-one free (Slot slot rest) (Slot slot′ rest′) e f = let g = one-answer e f in λ i. Slot (g i .slot) (g i .free)
+taken-one free (Slot slot rest) Nothing e f = absurd (true≢false (ap (λ (x : Said). x .done) (one-answer e f)))
+taken-one free Nothing (Slot slot rest) e f = absurd (true≢false (ap (λ (x : Said). x .done) (one-answer f e)))
+taken-one free Nothing Nothing e f = refl
 
--- an answer with both slices
-one-outcome : {A : Type 0} {o : Outcome A} {r r′ : A} {links links′ values values′ : List ℕ} → outcome r links values ≡ o → outcome r′ links′ values′ ≡ o
-    → (r ≡ r′) × (links ≡ links′) × (values ≡ values′)
-one-outcome {A} e f =
-    let g = one-answer e f in
-    (ap (λ (x : Outcome A). x .answer) g, ap (λ (x : Outcome A). x .links) g, ap (λ (x : Outcome A). x .values) g)
-
--- an answer with the buffer
-one-read : {o : ReadLeft} {r r′ : Read} {buffer buffer′ : List ℕ} → readLeft r buffer ≡ o → readLeft r′ buffer′ ≡ o → (r ≡ r′) × (buffer ≡ buffer′)
+-- a read's answer with the buffer
+pub one-read : {o : ReadLeft} {r r′ : Read} {buffer buffer′ : List ℕ} → readLeft r buffer ≡ o → readLeft r′ buffer′ ≡ o → (r ≡ r′) × (buffer ≡ buffer′)
 one-read e f =
     let g = one-answer e f in
     (ap (λ (x : ReadLeft). x .answer) g, ap (λ (x : ReadLeft). x .buffer) g)
