@@ -2,3 +2,4 @@
 pub mod Kept
 pub mod Exact
 pub mod OneResult
+pub mod Traces

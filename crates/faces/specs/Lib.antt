@@ -2,3 +2,4 @@
 pub mod Words
 pub mod Face
 pub mod Meaning
+pub mod Trace

@@ -1,16 +1,18 @@
--- What the ten calls by name do to what a list holds: upstream's clauses, from the laws over any engine.
-use mathlib.Core.Path.{_≡_, sym, subst}
+-- What the ten calls by name do to what a list holds: upstream's clauses, from the laws over any engine; and of their own outputs, that the backward reading is the forward one reversed and that setup ignores what was there.
+use mathlib.Core.Path.{_≡_, refl, sym, ap, subst}
 use mathlib.Core.Logic.{_↔_}
-use mathlib.Core.List.{List, [], _∷_, _++_}
+use mathlib.Core.List.{List, [], _∷_, _++_, reverse}
 use Prim.Native.Nat.{ℕ, _<_}
-use lib.ListN.{length}
-use Rattle.books.specs.Book.{mostLists}
+use lib.ListN.{length, take, drop}
+use Rattle.books.specs.declared.Book.{Book}
+use Rattle.books.specs.Book.{mostLists, AnyBook, eight, bookOf}
 use Rattle.shapes.specs.declared.End.the-variants.{Front, Back}
 use Rattle.shapes.specs.Moves.{Move, pushBack, pushFront, popBack, popFront, clear}
 use Rattle.engines.specs.Moves.{State, after, View}
 use Rattle.engines.proofs.Upstream as U
+use Rattle.engines.proofs.Directly.{backward-reversed, setup-ignores}
 use Rattle.xor.specs.Engine.{xor}
-use Rattle.xor.specs.Ten.{setupOf, pushBackOf, pushFrontOf, popBackOf, popFrontOf, clearOf}
+use Rattle.xor.specs.Ten.{setupOf, pushBackOf, pushFrontOf, popBackOf, popFrontOf, readForwardOf, readBackwardOf, clearOf}
 use Rattle.xor.specs.Moves.{Pool, stateOf, poolLeft, poolPopped, poolAfter}
 use Rattle.xor.proofs.Plain.{setup-left, after-told}
 use Rattle.xor.proofs.Lawful.{xor-lawful}
@@ -55,3 +57,23 @@ module _ {p : Pool} {l : ℕ} {vs : List ℕ} (H : Holds p l vs) where
   -- a cleared list holds nothing
   pub clear-holds-none : clearOf (p .links) (p .values) (p .book) l .answer .refusal .number ≡ 0 → Holds (poolLeft (clearOf (p .links) (p .values) (p .book) l)) l []
   clear-holds-none z = told-back p (clear l) (U.clear-empties xor-lawful H z)
+
+-- ---- of the calls' own outputs
+
+-- demand 2: "The backward reading is the forward one reversed"
+pub read-backward-reversed : (links values : List ℕ) (b : Book) (l : ℕ) (buffer buffer′ : List ℕ) (at at′ : ℕ)
+    → let forth = readForwardOf links values b l buffer at in
+    let back = readBackwardOf links values b l buffer′ at′ in
+    forth .answer .refusal .number ≡ 0 → back .answer .refusal .number ≡ 0
+    → (back .answer .count ≡ forth .answer .count) × (take (back .answer .count) (drop at′ (back .buffer)) ≡ reverse (take (forth .answer .count) (drop at (forth .buffer))))
+read-backward-reversed links values b l buffer buffer′ at at′ = backward-reversed xor-lawful links values (eight b) l buffer buffer′ at at′
+
+-- 01: "It ignores and overwrites what was there"
+pub setup-overwrites : (links links′ values values′ : List ℕ) (lists : ℕ) (shares limits : List ℕ) → length links ≡ length links′ → length values ≡ length values′
+    → let r = setupOf links values lists shares limits in
+    let r′ = setupOf links′ values′ lists shares limits in
+    (r .answer .refusal .number ≡ r′ .answer .refusal .number) × (r .answer .book ≡ r′ .answer .book)
+    × (r .answer .refusal .number ≡ 0 → (r .links ≡ r′ .links) × (r .values ≡ r′ .values))
+setup-overwrites links links′ values values′ lists shares limits size many =
+    let (n, b, c) = setup-ignores xor-lawful mostLists links values lists shares limits links′ values′ refl size many in
+    (n, ap (λ (x : AnyBook). bookOf x) b, c)

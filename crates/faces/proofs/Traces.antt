@@ -1,0 +1,234 @@
+-- Demand 3, the wiped slots, the reads and a clear that leaves nothing, at any point of a trace of the C functions: such a trace is one of the ten calls by name, and no premise on the number of words is left.
+use mathlib.Core.Path.{_≡_, refl, sym, ap, subst, _∙_}
+use mathlib.Core.Bool.{cond}
+use mathlib.Core.List.{List, _++_}
+use Prim.Native.Nat.{ℕ, _+_, _≤_, _<_}
+use native.Mathlib.Omega.{arith}
+use lib.Dec.{eqb}
+use lib.ListN.{length, take, drop, length-set}
+use Rattle.books.specs.declared.Book.{Book}
+use Rattle.books.specs.declared.Entry.{Entry}
+use Rattle.books.specs.Book.{mostLists, AnyBook, eight, wordsOf, entryAt}
+use Rattle.books.specs.Words.{bookFrom, entryFrom, entriesFrom}
+use Rattle.books.proofs.Flat.{words-length, book-kept, entry-read, entries-many}
+use Rattle.chains.specs.Count.{count}
+use Rattle.shapes.specs.declared.End.{End}
+use Rattle.shapes.specs.declared.End.the-variants.{Front, Back}
+use Rattle.shapes.specs.Ends.{joined, fromEnd}
+use Rattle.shapes.specs.Shape.{Shape, chainAt}
+use Rattle.shapes.specs.Moves.{Move, check, askLength, pushBack, pushFront, popBack, popFront, readForward, readBackward, clear}
+use Rattle.shapes.specs.Ledger.{Ledger, nothingNoted, notedDone}
+use Rattle.shapes.specs.Tests.{ReadLeft}
+use Rattle.shapes.proofs.Numbers.{decided-ind}
+use Rattle.engines.specs.Sound.{SoundBook}
+use Rattle.engines.specs.Calls.{Called, listTests, pushTests, popTests, pushCall, popCall, clearCall, readCall}
+use Rattle.engines.specs.Moves.{View}
+use Rattle.engines.specs.Trace.{Demand3}
+use Rattle.engines.proofs.Shape.{unique-book}
+use Rattle.engines.proofs.Steps.{joined-one}
+use Rattle.shapes.proofs.Ends.{length-joined}
+use Rattle.engines.proofs.Fresh.{setup-keeps}
+use Rattle.engines.proofs.Outcomes.{read-refused, clear-done}
+use Rattle.engines.proofs.Exactly.{length-zero, clear-zero, pop-zero, read-zero, read-eight}
+use Rattle.engines.proofs.Upstream.{as-long, length-is, pop-takes, pop-five-exactly, read-is}
+use Rattle.xor.specs.Engine.{xor}
+use Rattle.xor.specs.Ten.{setupOf}
+use Rattle.xor.specs.Moves.{Pool, stateOf, poolAfter, numberGiven, PoolTrace, begun, called}
+use Rattle.xor.proofs.Lawful.{xor-lawful}
+use Rattle.xor.proofs.Plain.{number-told}
+use Rattle.xor.proofs.Page.{page-told}
+use Rattle.xor.proofs.Traces.{demand-3-named}
+use Rattle.faces.specs.Face.{asShown, told, shown, setupFace}
+use Rattle.faces.specs.Trace.{Memory, memoryChanged, returned, memoryAfter, notedFor, FaceTrace, started, continued, FaceDemand3, FaceList}
+use Rattle.faces.proofs.Kept.{kept-done}
+use Rattle.faces.proofs.Exact.{push-back-same, push-front-same, pop-back-same, pop-front-same, clear-same}
+
+-- the pool with the book that the words are
+abbrev pub poolOf : Memory → Pool
+poolOf m = record { links = m .links; values = m .values; book = bookFrom (m .words) }
+
+-- ---- a call leaves eight entries, so that the words are told back whole
+
+module _ (links values : List ℕ) (b : AnyBook) (l : ℕ) where
+  push-entries : (end : End) (value : ℕ) → length (pushCall xor links values b l end value .book .entries) ≡ length (b .entries)
+  unfolding pushCall
+  push-entries end value = decided-ind _ _ (λ (r : Called xor). length (r .book .entries) ≡ length (b .entries)) (pushTests xor links values b l) (λ k. refl) (λ k. simp length-set)
+
+  pop-entries : (end : End) → length (popCall xor links values b l end .book .entries) ≡ length (b .entries)
+  unfolding popCall
+  pop-entries end = decided-ind _ _ (λ (r : Called xor). length (r .book .entries) ≡ length (b .entries)) (popTests xor links values b l) (λ k. refl) (λ k. simp length-set)
+
+  clear-entries : length (clearCall xor links values b l .book .entries) ≡ length (b .entries)
+  unfolding clearCall
+  clear-entries = decided-ind _ _ (λ (r : Called xor). length (r .book .entries) ≡ length (b .entries)) (listTests xor links values b l) (λ k. refl) (λ k. simp length-set)
+
+-- words that are a book's with eight entries: there are 34, and the book is told from them
+module _ {words : List ℕ} (b : Book) (e : words ≡ wordsOf b) (n : length (b .entries) ≡ 8) where
+  all-words : length words ≡ 34
+  all-words = ap length e ∙ words-length b n
+
+  told-book : bookFrom words ≡ b
+  told-book = ap bookFrom e ∙ book-kept b n
+
+-- ---- what a call leaves is what the call by name leaves
+
+same-pool : {links values : List ℕ} {b b′ : Book} → b ≡ b′ → _≡_ {A = Pool} (record { links = links; values = values; book = b }) (record { links = links; values = values; book = b′ })
+same-pool {links} {values} e = λ i. record { links = links; values = values; book = e i }
+
+-- what a call leaves: 34 words, and with the book that they are the pool that the call by name leaves
+pub record AfterCall (m : Memory) (move : Move) : Type 0 where
+  pub words : length (memoryAfter m move .words) ≡ 34
+  pub pool : poolOf (memoryAfter m move) ≡ poolAfter (poolOf m) move
+
+module _ (m : Memory) (h : length (m .words) ≡ 34) where
+  many : length (eight (bookFrom (m .words)) .entries) ≡ 8
+  many = entries-many (m .words)
+
+  pub memory-told : (move : Move) → AfterCall m move
+  memory-told check = record { words = h; pool = refl }
+  memory-told (askLength l) = record { words = h; pool = refl }
+  memory-told (pushBack l value) =
+      let n = push-entries (m .links) (m .values) (eight (bookFrom (m .words))) l Back value ∙ many in
+      let e = push-back-same (m .links) (m .values) (m .words) l value h .sameBook in
+      let b = poolAfter (poolOf m) (pushBack l value) .book in
+      record { words = all-words b e n; pool = same-pool (told-book b e n) }
+  memory-told (pushFront l value) =
+      let n = push-entries (m .links) (m .values) (eight (bookFrom (m .words))) l Front value ∙ many in
+      let e = push-front-same (m .links) (m .values) (m .words) l value h .sameBook in
+      let b = poolAfter (poolOf m) (pushFront l value) .book in
+      record { words = all-words b e n; pool = same-pool (told-book b e n) }
+  memory-told (popBack l) =
+      let n = pop-entries (m .links) (m .values) (eight (bookFrom (m .words))) l Back ∙ many in
+      let e = pop-back-same (m .links) (m .values) (m .words) l h .sameBook in
+      let b = poolAfter (poolOf m) (popBack l) .book in
+      record { words = all-words b e n; pool = same-pool (told-book b e n) }
+  memory-told (popFront l) =
+      let n = pop-entries (m .links) (m .values) (eight (bookFrom (m .words))) l Front ∙ many in
+      let e = pop-front-same (m .links) (m .values) (m .words) l h .sameBook in
+      let b = poolAfter (poolOf m) (popFront l) .book in
+      record { words = all-words b e n; pool = same-pool (told-book b e n) }
+  memory-told (readForward l buffer at) = record { words = h; pool = refl }
+  memory-told (readBackward l buffer at) = record { words = h; pool = refl }
+  memory-told (clear l) =
+      let n = clear-entries (m .links) (m .values) (eight (bookFrom (m .words))) l ∙ many in
+      let e = clear-same (m .links) (m .values) (m .words) l h .sameBook in
+      let b = poolAfter (poolOf m) (clear l) .book in
+      record { words = all-words b e n; pool = same-pool (told-book b e n) }
+
+-- the number that a C function returns is the one that the call by name gives
+pub returned-told : (m : Memory) (move : Move) → returned m move ≡ numberGiven (poolOf m) move
+returned-told m check = refl
+returned-told m (askLength l) = refl
+returned-told m (pushBack l value) = refl
+returned-told m (pushFront l value) = refl
+returned-told m (popBack l) = refl
+returned-told m (popFront l) = refl
+returned-told m (readForward l buffer at) = refl
+returned-told m (readBackward l buffer at) = refl
+returned-told m (clear l) = refl
+
+-- ---- a trace of the C functions is a trace of the ten calls by name
+
+module _ {lists : ℕ} {shares limits : List ℕ} where
+  pub face-trace : {m : Memory} {ledger : Ledger} → FaceTrace lists shares limits m ledger → (length (m .words) ≡ 34) × PoolTrace lists shares limits (poolOf m) ledger
+  face-trace (started links values words z) =
+      let b = setupOf links values lists shares limits .answer .book in
+      let e = kept-done _ words b z in
+      let n = setup-keeps xor-lawful mostLists links values lists shares limits z .entries in
+      (all-words b e n, subst (λ (p : Pool). PoolTrace lists shares limits p nothingNoted) (sym (same-pool (told-book b e n))) (begun links values z))
+  face-trace (continued {m} {ledger} t move) =
+      let (h, T) = face-trace t in
+      let W = memory-told m h move in (
+        W .words,
+        subst (λ (p : Pool). PoolTrace lists shares limits p (notedFor m move ledger)) (sym (W .pool))
+            (subst (λ (n : ℕ). PoolTrace lists shares limits (poolAfter (poolOf m) move) (cond (eqb n 0) (notedDone move ledger) ledger)) (sym (returned-told m move)) (called T move)),
+      )
+
+-- ---- what the calls give on a list
+
+module _ (m : Memory) {s : Shape} (S : SoundBook xor (m .links) (m .values) (eight (bookFrom (m .words))) s) (l : ℕ) (below : l < bookFrom (m .words) .lists)
+    {vs : List ℕ} (H : View xor (stateOf (poolOf m)) l vs) where
+  -- the list has as many slots as values
+  as-many : length (chainAt s l) ≡ length vs
+  as-many = as-long xor-lawful H S
+
+  -- a pop at an end of a list that holds something
+  taken : (end : End) (v : ℕ) (rest : List ℕ) → vs ≡ joined end v rest
+      → (popCall xor (m .links) (m .values) (eight (bookFrom (m .words))) l end .number ≡ 0) × (popCall xor (m .links) (m .values) (eight (bookFrom (m .words))) l end .value ≡ v)
+  taken end v rest e =
+      let z = pop-zero xor-lawful S l below end .1 (omega (arith, as-many, ap length e, length-joined end v rest)) in
+      let (more, f, K) = pop-takes xor-lawful H end z in
+      (z, joined-one end _ v more rest (sym f ∙ e) .0)
+
+  module _ (end : End) (buffer : List ℕ) (at : ℕ) where
+    abbrev reading : ReadLeft
+    reading = readCall xor (m .links) (m .values) (eight (bookFrom (m .words))) l end buffer at
+
+    -- a read that fits, and one that does not
+    fitting : at + length vs ≤ length buffer → asShown reading ≡ shown 0 (length vs) (take at buffer ++ fromEnd end vs ++ drop (at + length vs) buffer)
+    fitting h =
+        let z = read-zero xor-lawful S l below end buffer at .1 (omega (arith, as-many)) in
+        let (n, e) = read-is xor-lawful H end buffer at z in
+        λ i. record { number = z i; count = n i; buffer = e i }
+
+    lacking : length buffer < at + length vs → asShown reading ≡ shown 8 0 buffer
+    lacking h =
+        let z = read-eight xor-lawful S l below end buffer at .1 (omega (arith, as-many)) in
+        let R = read-refused xor (m .links) (m .values) (eight (bookFrom (m .words))) l end buffer at (λ e. omega arith) in
+        λ i. record { number = z i; count = R .noCount i; buffer = R .sameBuffer i }
+
+  face-list : FaceList m s l vs
+  face-list =
+      record {
+        asLong = let z = length-zero xor-lawful S l below in λ i. record { number = z i; length = length-is xor-lawful H z i };
+        last = taken Back;
+        first = taken Front;
+        five = (pop-five-exactly xor-lawful H Back .1, pop-five-exactly xor-lawful H Front .1);
+        forward = fitting Front;
+        backward = fitting Back;
+        tooSmall = λ buffer at h. (lacking Front buffer at h, lacking Back buffer at h);
+        cleared = clear-zero xor-lawful S l below;
+        nothingLeft = λ y h.
+            let (t, T, C) = clear-done xor-lawful (m .links) (m .values) (eight (bookFrom (m .words))) l (clear-zero xor-lawful S l below) in
+            C .wiped y (subst (λ (u : Shape). 0 < count y (chainAt u l)) (unique-book xor-lawful S T) h);
+      }
+
+-- ---- every sentence of demand 3, and what each list gives, at any point of a trace of the C functions
+
+pub demand-3-of-c : {lists : ℕ} {shares limits : List ℕ} {m : Memory} {ledger : Ledger} → FaceTrace lists shares limits m ledger
+    → (s : Shape) × FaceDemand3 lists shares limits m ledger s × ((l : ℕ) → l < lists → FaceList m s l (ledger .held l))
+demand-3-of-c {lists} {shares} {limits} {m} {ledger} t =
+    let (h, T) = face-trace t in
+    let (s, D) = demand-3-named T in
+    (s, demand h D, λ l b. face-list m (D .sound) l (omega (arith, D .asMany)) (record { shape = s; sound = D .sound; listed = omega (arith, D .asMany); holds = D .sequence l b }))
+  where
+    demand : length (m .words) ≡ 34 → {s : Shape} → Demand3 xor mostLists lists shares limits (stateOf (poolOf m)) ledger s → FaceDemand3 lists shares limits m ledger s
+    demand h {s} D =
+        record {
+          allWords = h;
+          sound = page-told (m .links) (m .values) (bookFrom (m .words)) s .0 (D .sound);
+          asMany = D .asMany;
+          granted = λ l b. (sym (ap (λ (e : Entry). e .share) (there l b)) ∙ D .granted l b .0, sym (ap (λ (e : Entry). e .limit) (there l b)) ∙ D .granted l b .1);
+          holds = D .holds;
+          sequence = D .sequence;
+          freed = D .freed;
+          wiped = λ y low high none. D .sound .pool .wiped y (omega (arith, D .freed y low high none));
+          within = D .within;
+          served = D .served;
+          six = D .six;
+          seven = D .seven;
+          never = λ move. let e = returned-told m move ∙ number-told (poolOf m) move in (λ z. D .never move .0 (sym e ∙ z), λ z. D .never move .1 (sym e ∙ z));
+        }
+      where
+        there : (l : ℕ) → l < lists → entryAt (entriesFrom (m .words)) l ≡ entryFrom (m .words) l
+        there l b = entry-read (m .words) l (omega (arith, D .asMany, D .sound .rules .most))
+
+-- ---- a trace may begin with any accepted setup, whatever words it is lent, and go on with any of the nine calls
+
+pub any-face-setup : (links values words : List ℕ) (lists : ℕ) (shares limits : List ℕ) → setupFace links values lists shares limits words .answer .number ≡ 0
+    → FaceTrace lists shares limits (memoryChanged (setupFace links values lists shares limits words)) nothingNoted
+any-face-setup links values words lists shares limits z = started links values words z
+
+pub any-face-call : {lists : ℕ} {shares limits : List ℕ} {m : Memory} {ledger : Ledger} → FaceTrace lists shares limits m ledger → (move : Move)
+    → FaceTrace lists shares limits (memoryAfter m move) (cond (eqb (returned m move) 0) (notedDone move ledger) ledger)
+any-face-call t move = continued t move
