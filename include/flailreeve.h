@@ -1,9 +1,13 @@
 /* Flailreeve's C face: lists for PIN pad firmware in one pool of memory that the firmware lends. Ten calls.
  *
- * For C11 and C++17. The functions stand in an archive, libabi.a, for x86-64 Linux; tools/archive builds it and prints its
- * path. It is what the proved crate `abi` is compiled to, uses no heap, keeps nothing between calls, and asks of the C library
- * for memset, memcpy, memmove, memcmp and bcmp at most. docs/SPEED.md has what a push and pop, check, length and clear
- * cost, and the code and the stack of each call.
+ * For C11 and C++17. The functions stand in an archive, libflailreeve.a; tools/archive builds it and prints its path. It is what
+ * the proved crate `abi` is compiled to, uses no heap, keeps nothing between calls, and asks of the C library for memset
+ * alone. docs/SPEED.md has what each call costs, its code and its stack.
+ *
+ * WHICH PROCESSOR. The archive is for x86-64 alone, since the toolchain compiles for nothing else: System V code for user
+ * space, as on Linux. It uses the SSE2 registers, and the 128 bytes below the stack pointer, so an interrupt handler on the
+ * same stack must leave both as they are. This header refuses a compiler for another processor. For those bench/plain has the
+ * same functions in plain C, which pass the same tests and are not proved; define FLAILREEVE_PLAIN_C to use them.
  *
  * THE POOL is two buffers of equal length N: a 16-bit link and a 64-bit value for each slot. N runs from 2 to 4,096. Slot 0
  * is the null and never holds an element; slots 1 to N-1 do. A slot that no list holds is free, and a free slot's value
@@ -30,6 +34,11 @@
  * before it acts, in time in proportion to N, and refuses by 3 one that is not sound. Damage that leaves it sound, as another
  * value in a list's slot, is not seen. List numbers, places and values may be anything too. Every call ends.
  *
+ * A RESET OR A POWER LOSS IN MID-CALL leaves what was stored until then, and no call undoes it. Where the memory kept what it
+ * held, flailreeve_check tells whether the pool is sound; a sound pool may still have the last call done, not done, or an
+ * element whose value is already wiped. To start again from a known state call flailreeve_setup: it asks nothing of what the
+ * memory holds, and wipes every slot.
+ *
  * WHAT IS LEFT TO THE FIRMWARE TO WIPE. The value that it hands to a push, in its own variables and, it being the seventh
  * argument, on its own stack; a value that a pop hands out; the copies that a read writes; and registers: after a done push or
  * pop one register that a call may change still holds the value (docs/SPEED.md says which), until something else is put
@@ -38,6 +47,10 @@
  * itself has in one of them is left there too. This is measured on the compiled archive, at every byte, and not proved. */
 #ifndef FLAILREEVE_H
 #define FLAILREEVE_H
+
+#if !defined(FLAILREEVE_PLAIN_C) && (!defined(__x86_64__) || defined(_WIN32))
+#error "libflailreeve.a is for x86-64 and System V alone; elsewhere compile bench/plain/flailreeve.c and define FLAILREEVE_PLAIN_C"
+#endif
 
 #include <stddef.h>
 #include <stdint.h>
@@ -53,18 +66,25 @@ enum {
     FLAILREEVE_LARGEST_POOL = 4096   /* the largest N */
 };
 
-/* The numbers that a call returns. */
+/* The version of this header. It is raised when a function, the book or the meaning of a number changes. An archive answers
+ * by flailreeve_version which header it is for; firmware asks once, before it calls anything else. */
+#define FLAILREEVE_VERSION 1
+
+/* The numbers that a call returns, and what to do about each. docs/REFUSALS.md has the same for field service. */
 enum {
-    FLAILREEVE_DONE = 0,     /* done */
-    FLAILREEVE_SIZES = 1,    /* the lengths of links and values differ, or N is under 2 or over 4,096 */
-    FLAILREEVE_RULES = 2,    /* setup's lists, shares or limits break the rules of the book */
-    FLAILREEVE_UNSOUND = 3,  /* the pool and its book are not sound: something damaged them */
-    FLAILREEVE_NO_LIST = 4,  /* the list number is not below the number of lists */
-    FLAILREEVE_EMPTY = 5,    /* the list is empty */
-    FLAILREEVE_LIMIT = 6,    /* the list's length equals its limit */
-    FLAILREEVE_KEPT = 7,     /* the list is under its limit but has its share, and the free slots are no more than what
-                                the other lists still lack of theirs */
-    FLAILREEVE_BUFFER = 8    /* `at` is past the buffer's end, or there are fewer places from `at` than the list is long */
+    FLAILREEVE_DONE = 0,             /* done */
+    FLAILREEVE_REFUSED_SIZES = 1,    /* the lengths of links and values differ, or N is under 2 or over 4,096. The call is
+                                        written wrongly: mend it */
+    FLAILREEVE_REFUSED_RULES = 2,    /* setup's lists, shares or limits break the rules of the book. Ask for less */
+    FLAILREEVE_REFUSED_UNSOUND = 3,  /* the pool and its book are not sound: something damaged them. What the lists held is
+                                        still in memory: call setup, which wipes every slot, and report it */
+    FLAILREEVE_REFUSED_NO_LIST = 4,  /* the list number is not below the number of lists. The call is written wrongly */
+    FLAILREEVE_REFUSED_EMPTY = 5,    /* the list is empty. Nothing is wrong: there is nothing to take */
+    FLAILREEVE_REFUSED_LIMIT = 6,    /* the list's length equals its limit. Take something out first, or drop the value */
+    FLAILREEVE_REFUSED_KEPT = 7,     /* the list is under its limit but has its share, and no slot is free but those that the
+                                        other lists still lack of theirs. As with 6, or wait until another list has less */
+    FLAILREEVE_REFUSED_BUFFER = 8    /* `at` is past the buffer's end, or there are fewer places from `at` than the list is
+                                        long. Ask for the length, and lend so many places */
 };
 
 /* One list of the book. */
@@ -88,7 +108,9 @@ struct flailreeve_book {
 #else
 #define FLAILREEVE_HOLDS(fact, words) _Static_assert(fact, words)
 #endif
+#ifndef FLAILREEVE_PLAIN_C
 FLAILREEVE_HOLDS(sizeof(void *) == 8 && sizeof(size_t) == 8, "the archive is for x86-64: pointers and sizes of 8 bytes");
+#endif
 FLAILREEVE_HOLDS(sizeof(uint16_t) == 2 && sizeof(uint64_t) == 8, "a byte has 8 bits");
 FLAILREEVE_HOLDS(sizeof(struct flailreeve_list) == 8, "a list of the book is four words");
 FLAILREEVE_HOLDS(offsetof(struct flailreeve_list, head) == 0, "the head is a list's first word");
@@ -206,6 +228,17 @@ FLAILREEVE_CALL uint16_t flailreeve_read_backward(const uint16_t *links, size_t 
  * Refused, it changes nothing: what the list held is still there. In a pool that is not sound, setup wipes every slot. */
 FLAILREEVE_CALL uint16_t flailreeve_clear(uint16_t *links, size_t links_len, uint64_t *values, size_t values_len,
                                           struct flailreeve_book *book, uint16_t list);
+
+/* ---- beside the ten calls */
+
+/* The version of the header that the archive is for: FLAILREEVE_VERSION, or the two do not fit. */
+uint16_t flailreeve_version(void);
+
+/* The text of a number that a call returned, in English, printable ASCII, with no null behind it. It gives how many bytes it
+ * wrote to `out` from its first place on; every other place keeps what it held. Where they do not all fit it gives 0 and
+ * writes nothing; FLAILREEVE_TEXT_BYTES places are enough for any text. Every number has a text. */
+enum { FLAILREEVE_TEXT_BYTES = 64 };
+FLAILREEVE_CALL size_t flailreeve_text(uint16_t number, uint8_t *out, size_t out_len);
 
 #undef FLAILREEVE_CALL
 

@@ -1,4 +1,4 @@
-/* The ten calls in plain C, as a careful firmware engineer would write them: what the archive's cost is held against, and what
+/* The ten calls in plain C, as a careful firmware engineer would write them, with the version and the texts: what the archive's cost is held against, and what
  * the faults of tests/c are planted in. The check is one pass over the pool and hands on what it found in registers; a call
  * stores to no cell twice, and clears nothing that it writes anyway. */
 #include "flailreeve.h"
@@ -41,9 +41,9 @@ static struct found look(const uint16_t *links, size_t links_len, const uint64_t
     size_t k, slot;
 
     if (!sizes_fit(links_len, values_len))
-        return refused(FLAILREEVE_SIZES);
+        return refused(FLAILREEVE_REFUSED_SIZES);
     if (book->lists < 1 || book->lists > FLAILREEVE_BOOK_LISTS || links[0] != 0 || values[0] != 0)
-        return refused(FLAILREEVE_UNSOUND);
+        return refused(FLAILREEVE_REFUSED_UNSOUND);
     memset(met, 0, n);
     met[0] = 1; /* so that free slots that end too early are refused */
     for (k = 0; k < book->lists; k++) {
@@ -57,7 +57,7 @@ static struct found look(const uint16_t *links, size_t links_len, const uint64_t
             size_t next;
 
             if (slot >= n || met[slot])
-                return refused(FLAILREEVE_UNSOUND);
+                return refused(FLAILREEVE_REFUSED_UNSOUND);
             met[slot] = 1;
             length++;
             next = links[slot] ^ last;
@@ -66,26 +66,26 @@ static struct found look(const uint16_t *links, size_t links_len, const uint64_t
         }
         takes = length > list->share ? length : list->share;
         if (slot != 0 || takes > list->limit || list->limit >= n)
-            return refused(FLAILREEVE_UNSOUND);
+            return refused(FLAILREEVE_REFUSED_UNSOUND);
         left -= length;
         taken += takes;
         lengths[k] = (uint16_t)length;
     }
     for (; k < FLAILREEVE_BOOK_LISTS; k++)
         if (memcmp(&book->list[k], &no_list, sizeof no_list) != 0)
-            return refused(FLAILREEVE_UNSOUND);
+            return refused(FLAILREEVE_REFUSED_UNSOUND);
     /* Free slots need no mark: if the walk came to one twice it would go round, and not be at 0 after the last. */
     slot = book->free_head;
     for (; left > 0; left--) {
         if (slot >= n || met[slot] || values[slot] != 0)
-            return refused(FLAILREEVE_UNSOUND);
+            return refused(FLAILREEVE_REFUSED_UNSOUND);
         slot = links[slot];
     }
     /* More than N-1 are taken where the free slots do not cover what is lacked, and where the shares add up to more. */
     if (slot != 0 || taken >= n)
-        return refused(FLAILREEVE_UNSOUND);
+        return refused(FLAILREEVE_REFUSED_UNSOUND);
     if (wanted >= book->lists)
-        return refused(FLAILREEVE_NO_LIST);
+        return refused(FLAILREEVE_REFUSED_NO_LIST);
     return (struct found){FLAILREEVE_DONE, lengths[wanted], (uint32_t)(n - 1 - taken)};
 }
 
@@ -114,9 +114,9 @@ uint16_t flailreeve_setup(uint16_t *links, size_t links_len, uint64_t *values, s
     size_t k;
 
     if (!sizes_fit(links_len, values_len))
-        return FLAILREEVE_SIZES;
+        return FLAILREEVE_REFUSED_SIZES;
     if (!keeps_rules(lists, shares, limits, links_len))
-        return FLAILREEVE_RULES;
+        return FLAILREEVE_REFUSED_RULES;
     book->lists = lists;
     for (k = 0; k < lists; k++)
         book->list[k] = (struct flailreeve_list){0, 0, shares[k], limits[k]};
@@ -160,9 +160,9 @@ static inline uint16_t push(uint16_t *links, size_t links_len, uint64_t *values,
         return (uint16_t)found.number;
     to = &book->list[list];
     if (found.length == to->limit)
-        return FLAILREEVE_LIMIT;
+        return FLAILREEVE_REFUSED_LIMIT;
     if (found.length >= to->share && found.spare == 0)
-        return FLAILREEVE_KEPT;
+        return FLAILREEVE_REFUSED_KEPT;
     near_end = end == FRONT ? &to->head : &to->tail;
     far_end = end == FRONT ? &to->tail : &to->head;
     slot = book->free_head;
@@ -200,7 +200,7 @@ static inline uint16_t pop(uint16_t *links, size_t links_len, uint64_t *values, 
     uint16_t slot, neighbour;
 
     if (found.number == FLAILREEVE_DONE && found.length == 0)
-        found.number = FLAILREEVE_EMPTY;
+        found.number = FLAILREEVE_REFUSED_EMPTY;
     if (found.number != FLAILREEVE_DONE) {
         *value = 0;
         return (uint16_t)found.number;
@@ -244,7 +244,7 @@ static inline uint16_t read(const uint16_t *links, size_t links_len, const uint6
     size_t slot;
 
     if (found.number == FLAILREEVE_DONE && (at > out_len || out_len - at < found.length))
-        found.number = FLAILREEVE_BUFFER;
+        found.number = FLAILREEVE_REFUSED_BUFFER;
     if (found.number != FLAILREEVE_DONE) {
         *count = 0;
         return (uint16_t)found.number;
@@ -302,4 +302,34 @@ uint16_t flailreeve_clear(uint16_t *links, size_t links_len, uint64_t *values, s
     book->free_head = from->tail;
     from->head = from->tail = 0;
     return FLAILREEVE_DONE;
+}
+
+uint16_t flailreeve_version(void)
+{
+    return FLAILREEVE_VERSION;
+}
+
+size_t flailreeve_text(uint16_t number, uint8_t *out, size_t out_len)
+{
+    static const char *const texts[] = {
+        "done",
+        "the pool is too small or large, or its parts differ in length",
+        "the lists, shares or limits asked for break the rules",
+        "the pool or its book is damaged",
+        "there is no such list",
+        "the list is empty",
+        "the list is at its limit",
+        "no slot is free but those kept for other lists",
+        "the buffer is too small",
+    };
+    const char *text = "this version does not know the number";
+    size_t bytes;
+
+    if (number < sizeof texts / sizeof texts[0])
+        text = texts[number];
+    bytes = strlen(text);
+    if (out_len < bytes)
+        return 0;
+    memcpy(out, text, bytes);
+    return bytes;
 }

@@ -78,6 +78,10 @@ static void flood(void)
 
 int main(void)
 {
+    if (flailreeve_version() != FLAILREEVE_VERSION) {
+        puts("the archive is for another version of the header");
+        return 1;
+    }
     must(flailreeve_setup(links, SLOTS, values, SLOTS, QUEUES, shares, limits, &book));
     must(flailreeve_push_back(links, SLOTS, values, SLOTS, &book, PIN_BLOCKS, letters("PINBLOK1")));
     flood();

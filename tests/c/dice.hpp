@@ -92,7 +92,7 @@ inline std::size_t random_place(Dice &dice, std::size_t out, std::size_t length)
     const std::size_t all = ~std::size_t{0};
     const std::size_t choices[] = {0, out, out + 1, out + 2, out > length ? out - length : 0, out > length ? out - length + 1 : 1,
                                    dice.from(0, out), all, all - length + 1, all - dice.from(0, 8), all / 2 + 1,
-                                   65536, 65536 + dice.from(0, out), (std::size_t{1} << 32) + dice.from(0, out)};
+                                   65536, 65536 + dice.from(0, out), static_cast<std::size_t>(std::uint64_t{1} << 32) + dice.from(0, out)};
     return dice.one_of(choices);
 }
 

@@ -1,5 +1,7 @@
-/* The header compiles as C11 by itself and twice, and declares the ten functions as they are called. */
+/* The headers compile as C11 by themselves and twice, and declare the functions as they are called. */
+#include "flailreeve_pool.h"
 #include "flailreeve.h"
+#include "flailreeve_pool.h"
 #include "flailreeve.h"
 
 typedef uint16_t links_t;
@@ -17,10 +19,12 @@ uint16_t (*const pops_are[2])(links_t *, size_t, values_t *, size_t, book_t *, u
     flailreeve_pop_back, flailreeve_pop_front};
 uint16_t (*const reads_are[2])(const links_t *, size_t, const values_t *, size_t, const book_t *, uint16_t, uint64_t *,
                                size_t, size_t, uint16_t *) = {flailreeve_read_forward, flailreeve_read_backward};
+uint16_t (*const version_is)(void) = flailreeve_version;
+size_t (*const text_is)(uint16_t, uint8_t *, size_t) = flailreeve_text;
 uint16_t (*const clear_is)(links_t *, size_t, values_t *, size_t, book_t *, uint16_t) = flailreeve_clear;
 
 /* The numbers of document 01. */
-_Static_assert(FLAILREEVE_DONE == 0 && FLAILREEVE_SIZES == 1 && FLAILREEVE_RULES == 2 && FLAILREEVE_UNSOUND == 3 &&
-                   FLAILREEVE_NO_LIST == 4 && FLAILREEVE_EMPTY == 5 && FLAILREEVE_LIMIT == 6 && FLAILREEVE_KEPT == 7 &&
-                   FLAILREEVE_BUFFER == 8,
+_Static_assert(FLAILREEVE_DONE == 0 && FLAILREEVE_REFUSED_SIZES == 1 && FLAILREEVE_REFUSED_RULES == 2 && FLAILREEVE_REFUSED_UNSOUND == 3 &&
+                   FLAILREEVE_REFUSED_NO_LIST == 4 && FLAILREEVE_REFUSED_EMPTY == 5 && FLAILREEVE_REFUSED_LIMIT == 6 && FLAILREEVE_REFUSED_KEPT == 7 &&
+                   FLAILREEVE_REFUSED_BUFFER == 8,
                "the numbers are those of document 01");

@@ -1,5 +1,7 @@
-// The header compiles as C++17 by itself and twice, with C names, and declares the ten functions as they are called.
+// The headers compile as C++17 by themselves and twice, with C names, and declare the functions as they are called.
+#include "flailreeve_pool.h"
 #include "flailreeve.h"
+#include "flailreeve_pool.h"
 #include "flailreeve.h"
 
 #include <type_traits>
@@ -28,4 +30,8 @@ using clear_t = half(links_t *, size, values_t *, size, book_t *, half);
 [[maybe_unused]] static read_t *const read_forward_is = flailreeve_read_forward;
 [[maybe_unused]] static read_t *const read_backward_is = flailreeve_read_backward;
 [[maybe_unused]] static clear_t *const clear_is = flailreeve_clear;
+using version_t = half();
+using text_t = size(half, uint8_t *, size);
+[[maybe_unused]] static version_t *const version_is = flailreeve_version;
+[[maybe_unused]] static text_t *const text_is = flailreeve_text;
 static_assert(std::is_standard_layout<book_t>::value && std::is_trivially_copyable<book_t>::value, "the book is plain data");

@@ -20,6 +20,11 @@ use Rattle.abi.proofs.changes.flailreeve_pop_front as pop-front
 use Rattle.abi.proofs.looks.flailreeve_read_forward as read-forward
 use Rattle.abi.proofs.looks.flailreeve_read_backward as read-backward
 use Rattle.abi.proofs.changes.flailreeve_clear as clear
+use Rattle.abi.proofs.about.flailreeve_version as version
+use Rattle.abi.proofs.about.flailreeve_text as text
+use Rattle.wording.specs.Digits.{Written}
+use Rattle.wording.specs.Texts.{textOf}
+use Rattle.faces.specs.Version.{faceVersion}
 
 module _ {M : Type 1} (𝓤 : URA M) (H : Heap 𝓤) (A : Atoms 𝓤) (mem : Memory → SProp 𝓤) (run : Routine → Fun 𝓤) where
   pub face-setup-promises : setup.spec 𝓤 H A mem run ≡ closing 𝓤 H A setup.ended (λ κs a. record { ghost = Unit {0}; requires = λ _. emp 𝓤; ensures = λ _ r e. fact 𝓤 (outcome (changed r (e .1 .1 .1 .1 .1 .0 .now)) (e .0 .now) (e .1 .0 .now) ≡ setupFace (a .0 .now) (a .1 .0 .now) (a .1 .1 .0) (a .1 .1 .1 .0 .now) (a .1 .1 .1 .1 .0 .now) (a .1 .1 .1 .1 .1 .0 .now)) })
@@ -51,3 +56,9 @@ module _ {M : Type 1} (𝓤 : URA M) (H : Heap 𝓤) (A : Atoms 𝓤) (mem : Mem
 
   pub face-clear-promises : clear.spec 𝓤 H A mem run ≡ closing 𝓤 H A clear.ended (λ κs a. record { ghost = Unit {0}; requires = λ _. emp 𝓤; ensures = λ _ r e. fact 𝓤 (outcome (changed r (e .1 .1 .0 .now)) (e .0 .now) (e .1 .0 .now) ≡ clearFace (a .0 .now) (a .1 .0 .now) (a .1 .1 .0 .now) (a .1 .1 .1 .0)) })
   face-clear-promises = refl
+
+  pub face-version-promises : version.spec 𝓤 H A mem run ≡ closing 𝓤 H A version.ended (λ κs a. record { ghost = Unit {0}; requires = λ _. emp 𝓤; ensures = λ _ r e. fact 𝓤 (r ≡ faceVersion) })
+  face-version-promises = refl
+
+  pub face-text-promises : text.spec 𝓤 H A mem run ≡ closing 𝓤 H A text.ended (λ κs a. record { ghost = Unit {0}; requires = λ _. emp 𝓤; ensures = λ _ r e. fact 𝓤 (Written (textOf (a .0)) (a .1 .0 .now) 0 r (e .1 .0 .now)) })
+  face-text-promises = refl

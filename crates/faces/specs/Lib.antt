@@ -3,3 +3,4 @@ pub mod Words
 pub mod Face
 pub mod Meaning
 pub mod Trace
+pub mod Version

@@ -23,7 +23,7 @@ pub fn write(out: &mut [u8], at: usize, number: u16) -> usize
         4 => put(out, at, b"there is no such list"),
         5 => put(out, at, b"the list is empty"),
         6 => put(out, at, b"the list is at its limit"),
-        7 => put(out, at, b"the free slots are kept for other lists"),
+        7 => put(out, at, b"no slot is free but those kept for other lists"),
         8 => put(out, at, b"the buffer is too small"),
         9..=65535 => put(out, at, b"this version does not know the number"),
     }

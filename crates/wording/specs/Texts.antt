@@ -20,7 +20,7 @@ known =
     ∷ spelled "there is no such list"
     ∷ spelled "the list is empty"
     ∷ spelled "the list is at its limit"
-    ∷ spelled "the free slots are kept for other lists"
+    ∷ spelled "no slot is free but those kept for other lists"
     ∷ spelled "the buffer is too small"
     ∷ []
 
