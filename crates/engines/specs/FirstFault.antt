@@ -1,4 +1,4 @@
--- When each of 02 b)'s rules 9 to 15 is the first that is broken, with its list and its position, over any engine. It runs no walk; a pool in which none is broken is `Sound`.
+-- When each of 02 b)'s rules 9 to 15 is the first that is broken, with its list and its position, over any engine. It is a definition, not the check's algorithm; a pool in which none is broken is `Sound`.
 use mathlib.Core.Path.{_≡_}
 use mathlib.Core.Logic.{_≢_, _⊎_}
 use mathlib.Core.Bool.{Bool, true, false}

@@ -1,4 +1,4 @@
--- What it is for a pool with its book to be sound: document 01, "The pool and the book", clause by clause, over any engine. It runs no walk.
+-- What it is for a pool with its book to be sound: document 01, "The pool and the book", clause by clause, over any engine. It is a definition, not the check's algorithm.
 use mathlib.Core.Path.{_≡_}
 use mathlib.Core.Bool.{true}
 use mathlib.Core.List.{List, _++_}

@@ -1,4 +1,4 @@
--- The reader's page: what it is for a pool with its book to be sound, document 01, "The pool and the book", clause by clause, with the XOR list's own cells. It runs no walk. The law `page-accepts` says that the check accepts just these pools, and `page-told` that all other laws speak of them.
+-- The reader's page: what it is for a pool with its book to be sound, document 01, "The pool and the book", clause by clause, with the XOR list's own cells. It is a definition, not the check's algorithm. The law `page-accepts` says that the check accepts just these pools, and `page-told` that all other laws speak of them.
 use mathlib.Core.Path.{_≡_}
 use mathlib.Core.List.{List}
 use Prim.Native.Nat.{ℕ, _≤_, _<_}
