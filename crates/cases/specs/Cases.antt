@@ -8,6 +8,7 @@ use Rattle.books.specs.declared.Book.{Book}
 use Rattle.books.specs.Book.{zeroEntry, wordsOf}
 use Rattle.xor.specs.Ten.{setupOf, popBackOf, popFrontOf}
 use Rattle.xor.specs.Moves.{Pool, poolLeft, numberGiven, poolAfter}
+use Rattle.engines.specs.Trial.{sameNumbers}
 use Rattle.shapes.specs.Moves.{Move, check, askLength, pushBack, pushFront, popBack, popFront, readForward, readBackward, clear}
 
 -- a call, and what it must give: the number, the value handed out, 0 for none, and every cell and word afterwards
@@ -130,12 +131,6 @@ valueGiven st (popFront l) = popFrontOf (st .links) (st .values) (st .book) l .a
 valueGiven st (readForward l buffer at) = 0
 valueGiven st (readBackward l buffer at) = 0
 valueGiven st (clear l) = 0
-
-abbrev pub sameNumbers : List ℕ → List ℕ → Bool
-sameNumbers [] [] = true
-sameNumbers [] (y ∷ ys) = false
-sameNumbers (x ∷ xs) [] = false
-sameNumbers (x ∷ xs) (y ∷ ys) = eqb x y && sameNumbers xs ys
 
 abbrev pub samePool : Pool → Pool → Bool
 samePool s t = sameNumbers (s .links) (t .links) && (sameNumbers (s .values) (t .values) && sameNumbers (wordsOf (s .book)) (wordsOf (t .book)))

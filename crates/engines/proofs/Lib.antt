@@ -30,3 +30,7 @@ pub mod Popping
 pub mod Upstream
 pub mod Traces
 pub mod Rows
+-- the computed cases
+pub mod Edges
+pub mod Turns
+pub mod Places

@@ -14,3 +14,9 @@ pub mod Done
 pub mod Moves
 pub mod Rows
 pub mod Trace
+-- an engine to compute with, and cases over it on both sides of every clause and condition
+pub mod Trial
+pub mod Edges
+pub mod Turns
+pub mod Left
+pub mod Places

@@ -1,0 +1,100 @@
+-- Pools over the engine `trial` with their first fault: the rule of 02 b), the list and the place. And pools of many slots.
+use mathlib.Core.Bool.{Bool, true, _&&_}
+use mathlib.Core.List.{List, [], _∷_, _++_}
+use Prim.Native.Nat.{ℕ}
+use lib.Dec.{eqb}
+use lib.ListN.{set, replicate}
+use Rattle.books.specs.declared.Entry.{Entry}
+use Rattle.shapes.specs.declared.Fault.{Fault}
+use Rattle.shapes.specs.Faults.{fault}
+use Rattle.engines.specs.Check.{checkFound}
+use Rattle.engines.specs.Calls.{setupCall}
+use Rattle.engines.specs.Moves.{State, left}
+use Rattle.engines.specs.Trial.{trial, twoWay, entry, none, pool}
+
+-- a pool with its book, and its first fault
+pub record FaultCase : Type 0 where
+  pub first : Fault
+  pub state : State trial
+
+abbrev faultCase : ℕ → ℕ → ℕ → List ℕ → List ℕ → List ℕ → ℕ → List Entry → ℕ → FaultCase
+faultCase rule list place next previous values lists entries free = record { first = fault rule list place; state = pool next previous values lists entries free }
+
+abbrev two : ℕ → ℕ → List ℕ
+two a b = a ∷ b ∷ []
+
+abbrev three : ℕ → ℕ → ℕ → List ℕ
+three a b c = a ∷ b ∷ c ∷ []
+
+abbrev four : ℕ → ℕ → ℕ → ℕ → List ℕ
+four a b c d = a ∷ b ∷ c ∷ d ∷ []
+
+abbrev pub faultPools : List FaultCase
+faultPools =
+    -- no fault: a list of two slots
+    faultCase 0 0 0 (three 0 2 0) (three 0 0 1) (three 0 8 9) 1 (entry 1 2 0 2 ∷ none 7) 0
+    -- rule 9 goes before rule 10, and rule 10 before rule 11: slot 0's links and its value
+    ∷ faultCase 9 0 0 (two 1 0) (two 0 0) (two 0 0) 1 (entry 0 0 1 0 ∷ none 7) 1
+    ∷ faultCase 10 0 0 (two 1 0) (two 0 0) (two 0 0) 1 (entry 0 1 0 1 ∷ none 7) 1
+    ∷ faultCase 10 0 0 (two 0 0) (two 1 0) (two 0 0) 1 (entry 0 1 0 1 ∷ none 7) 1
+    ∷ faultCase 10 0 0 (two 0 0) (two 0 0) (two 1 0) 1 (entry 0 1 0 1 ∷ none 7) 1
+    -- rule 11: a tail without a head; a head without a tail; a slot past the pool, at the head and behind it
+    ∷ faultCase 11 0 0 (two 0 0) (two 0 0) (two 0 0) 1 (entry 0 1 0 1 ∷ none 7) 1
+    ∷ faultCase 11 0 1 (two 0 0) (two 0 0) (two 0 5) 1 (entry 1 0 0 1 ∷ none 7) 0
+    ∷ faultCase 11 0 0 (two 0 0) (two 0 0) (two 0 0) 1 (entry 2 1 0 1 ∷ none 7) 0
+    ∷ faultCase 11 0 1 (two 0 2) (two 0 0) (two 0 5) 1 (entry 1 1 0 1 ∷ none 7) 0
+    -- the chain comes back to a slot; it goes on behind the tail; it ends before the tail
+    ∷ faultCase 11 0 2 (three 0 2 1) (three 0 0 1) (three 0 8 9) 1 (entry 1 2 0 2 ∷ none 7) 0
+    ∷ faultCase 11 0 2 (three 0 2 0) (three 0 0 1) (three 0 8 9) 1 (entry 1 1 0 2 ∷ none 7) 0
+    ∷ faultCase 11 0 1 (three 0 0 0) (three 0 0 0) (three 0 8 0) 1 (entry 1 2 0 2 ∷ none 7) 2
+    -- 02 f): "a wrong previous link, at its slot's position"
+    ∷ faultCase 11 0 0 (three 0 2 0) (three 0 2 1) (three 0 8 9) 1 (entry 1 2 0 2 ∷ none 7) 0
+    ∷ faultCase 11 0 1 (three 0 2 0) (three 0 0 2) (three 0 8 9) 1 (entry 1 2 0 2 ∷ none 7) 0
+    -- a slot of list 0 in list 1: at its head, and behind it. List 0's fault goes before list 1's, and list 1's before list 2's
+    ∷ faultCase 11 1 0 (two 0 0) (two 0 0) (two 0 5) 2 (entry 1 1 0 1 ∷ entry 1 1 0 1 ∷ none 6) 0
+    ∷ faultCase 11 1 1 (three 0 0 1) (three 0 0 0) (three 0 8 9) 2 (entry 1 1 0 2 ∷ entry 2 1 0 2 ∷ none 6) 0
+    ∷ faultCase 11 0 1 (two 0 0) (two 0 0) (two 0 5) 2 (entry 1 0 0 1 ∷ entry 1 1 0 1 ∷ none 6) 0
+    ∷ faultCase 11 1 0 (two 0 0) (two 0 0) (two 0 5) 3 (entry 1 1 0 1 ∷ entry 0 1 0 1 ∷ entry 1 1 0 1 ∷ none 5) 0
+    -- rule 12: a free head past the pool; a free chain that comes back; one that leaves the pool; one that goes into a list; a previous link; behind a wiped slot
+    ∷ faultCase 12 0 0 (two 0 0) (two 0 0) (two 0 0) 1 (entry 0 0 0 1 ∷ none 7) 7
+    ∷ faultCase 12 0 1 (two 0 1) (two 0 0) (two 0 0) 1 (entry 0 0 0 1 ∷ none 7) 1
+    ∷ faultCase 12 0 1 (two 0 2) (two 0 0) (two 0 0) 1 (entry 0 0 0 1 ∷ none 7) 1
+    ∷ faultCase 12 0 1 (three 0 0 1) (three 0 0 0) (three 0 8 0) 1 (entry 1 1 0 2 ∷ none 7) 2
+    ∷ faultCase 12 0 0 (two 0 0) (two 0 1) (two 0 0) 1 (entry 0 0 0 1 ∷ none 7) 1
+    ∷ faultCase 12 0 1 (three 0 2 0) (three 0 0 1) (three 0 0 0) 1 (entry 0 0 0 2 ∷ none 7) 1
+    -- rule 13: the lowest slot that is nowhere, before a free slot that has a value
+    ∷ faultCase 13 0 1 (three 0 0 0) (three 0 0 0) (three 0 0 9) 1 (entry 0 0 0 2 ∷ none 7) 2
+    ∷ faultCase 13 0 2 (four 0 0 0 0) (four 0 0 0 0) (four 0 0 0 0) 1 (entry 1 1 0 3 ∷ none 7) 0
+    ∷ faultCase 13 0 3 (four 0 2 0 0) (four 0 0 0 0) (four 0 0 0 0) 1 (entry 0 0 0 3 ∷ none 7) 1
+    -- rule 14: slots 3, 1 and 2 are free in this order, 3 and 2 have values: the lowest slot is named, before a list over its limit
+    ∷ faultCase 14 0 2 (four 0 2 0 1) (four 0 0 0 0) (four 0 0 8 9) 1 (entry 0 0 0 3 ∷ none 7) 3
+    ∷ faultCase 14 0 1 (three 0 0 0) (three 0 0 0) (three 0 1 5) 1 (entry 2 2 0 0 ∷ none 7) 1
+    -- rule 15: lists 1 and 2 are over their limits; no list is, and the free slots do not cover the lacks: L stands for the list
+    ∷ faultCase 15 1 0 (four 0 0 0 0) (four 0 0 0 0) (four 0 8 9 7) 3 (entry 1 1 0 1 ∷ entry 2 2 0 0 ∷ entry 3 3 0 0 ∷ none 5) 0
+    ∷ faultCase 15 2 0 (three 0 2 0) (three 0 0 1) (three 0 8 8) 2 (entry 1 2 0 2 ∷ entry 0 0 1 1 ∷ none 6) 0
+    -- the largest pool: a head, and a free head, of N
+    ∷ faultCase 11 0 0 (replicate 4096 0) (replicate 4096 0) (replicate 4096 0) 1 (entry 4096 4096 0 4095 ∷ none 7) 0
+    ∷ faultCase 12 0 0 (replicate 4096 0) (replicate 4096 0) (replicate 4096 0) 1 (entry 0 0 0 4095 ∷ none 7) 4096
+    ∷ faultCase 9 0 0 (replicate 4096 0) (replicate 4096 0) (replicate 4096 0) 1 (entry 0 0 0 4096 ∷ none 7) 1
+    ∷ faultCase 9 0 0 (replicate 4096 0) (replicate 4096 0) (replicate 4096 0) 1 (entry 0 0 65535 65535 ∷ none 7) 1
+    ∷ []
+
+-- ---- more slots than a byte counts
+
+-- 260 slots after a setup of one list whose share and limit are N - 1
+abbrev manySlots : State trial
+manySlots = left (setupCall trial 8 (twoWay (replicate 260 9) (replicate 260 9)) (replicate 260 9) 1 (259 ∷ replicate 7 0) (259 ∷ replicate 7 0))
+
+-- they are sound; with one bit in the last slot, which is free, they are not
+abbrev pub manyPools : List FaultCase
+manyPools =
+    record { first = fault 0 0 0; state = manySlots }
+    ∷ record { first = fault 14 0 259; state = record { links = manySlots .links; values = set (manySlots .values) 259 9223372036854775808; book = manySlots .book } }
+    ∷ []
+
+-- does the check find each at its place?
+abbrev pub faultsFound : List FaultCase → Bool
+faultsFound [] = true
+faultsFound (b ∷ bs) =
+    let found = checkFound trial 0 (b .state .links) (b .state .values) (b .state .book) .fault in
+    eqb (found .rule) (b .first .rule) && (eqb (found .list) (b .first .list) && (eqb (found .place) (b .first .place) && faultsFound bs))

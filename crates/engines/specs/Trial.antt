@@ -1,0 +1,147 @@
+-- An engine to compute with: two link slices, each slot's next and previous one. It is here so that the cases of `Edges` and `Turns` stand beside the definitions that they pin. No code runs it, and no law speaks of it.
+use mathlib.Core.Path.{_≡_}
+use mathlib.Core.Bool.{Bool, true, false, cond, not, _&&_}
+use mathlib.Core.List.{List, [], _∷_, _++_}
+use Prim.Native.Nat.{ℕ, zero, suc, _+_}
+use lib.Dec.{ltb, eqb}
+use lib.ListN.{length, set, replicate}
+use Rattle.books.specs.declared.Free.{Free}
+use Rattle.books.specs.declared.Entry.{Entry}
+use Rattle.books.specs.Book.{nullSlot, wipeWord, zeroEntry, entryWords, AnyBook}
+use Rattle.books.specs.Tabulate.{tabulate}
+use Rattle.chains.specs.Chain.{cell}
+use Rattle.shapes.specs.declared.End.{End}
+use Rattle.shapes.specs.declared.End.the-variants.{Front, Back}
+use Rattle.shapes.specs.Ends.{nearOf, withNear, withBoth, emptied}
+use Rattle.shapes.specs.Walk.{Tied}
+use Rattle.engines.specs.Engine.{Engine, Step}
+use Rattle.engines.specs.Moves.{State}
+
+pub record TwoWay : Type 0 where
+  pub next : List ℕ
+  pub previous : List ℕ
+
+abbrev pub twoWay : List ℕ → List ℕ → TwoWay
+twoWay next previous = record { next = next; previous = previous }
+
+-- from an end, the cells that lead inward, and those that lead outward
+abbrev inward : End → TwoWay → List ℕ
+inward Front links = links .next
+inward Back links = links .previous
+
+abbrev outward : End → TwoWay → List ℕ
+outward Front links = links .previous
+outward Back links = links .next
+
+abbrev made : End → List ℕ → List ℕ → TwoWay
+made Front inner outer = twoWay inner outer
+made Back inner outer = twoWay outer inner
+
+-- the cell of a slot is set; slot 0's never is
+abbrev setSlot : List ℕ → ℕ → ℕ → List ℕ
+setSlot cells slot x = cond (eqb slot nullSlot) cells (set cells slot x)
+
+-- links 1 to 2, 2 to 3, and so on, the last 0
+abbrev freshNext : ℕ → ℕ → ℕ
+freshNext size slot = cond (ltb nullSlot slot && ltb (slot + 1) size) (slot + 1) 0
+
+-- the slot at the free head stands at the end of the list
+abbrev pushStep : End → TwoWay → List ℕ → Entry → Free → ℕ → Step TwoWay
+pushStep end links values list free value =
+    let slot = free .head in
+    let near = nearOf end list in
+    record {
+      done = not (eqb slot nullSlot);
+      value = 0;
+      entry = cond (eqb near nullSlot) (withBoth slot list) (withNear end slot list);
+      free = record { head = cell (links .next) slot };
+      links = made end (setSlot (inward end links) slot near) (setSlot (setSlot (outward end links) near slot) slot nullSlot);
+      values = setSlot values slot value;
+    }
+
+-- the slot at the end leaves for the front of the idle chain
+abbrev popStep : End → TwoWay → List ℕ → Entry → Free → Step TwoWay
+popStep end links values list free =
+    let slot = nearOf end list in
+    let near = cell (inward end links) slot in
+    let rest = made end (inward end links) (setSlot (outward end links) near nullSlot) in
+    record {
+      done = not (eqb slot nullSlot);
+      value = cell values slot;
+      entry = cond (eqb near nullSlot) (emptied list) (withNear end near list);
+      free = record { head = slot };
+      links = twoWay (setSlot (rest .next) slot (free .head)) (setSlot (rest .previous) slot nullSlot);
+      values = setSlot values slot wipeWord;
+    }
+
+abbrev pub trial : Engine
+trial =
+    record {
+      Links = TwoWay;
+      even = λ links. eqb (length (links .next)) (length (links .previous));
+      size = λ links. length (links .next);
+      -- a live slot has the slot after it and the slot before it; a free slot the next free one and 0
+      Live = λ links xs. Tied (λ p x. cell (links .next) x) (λ p x. eqb (cell (links .previous) x) p) 0 xs;
+      Idle = λ links xs. Tied (λ p x. cell (links .next) x) (λ p x. eqb (cell (links .previous) x) 0) 0 xs;
+      Null = λ links. (cell (links .next) nullSlot ≡ 0) × (cell (links .previous) nullSlot ≡ 0);
+      Same = λ links links′ y. (cell (links′ .next) y ≡ cell (links .next) y) × (cell (links′ .previous) y ≡ cell (links .previous) y);
+      onward = λ end links p x. cell (inward end links) x;
+      fits = λ links p x. eqb (cell (links .previous) x) p;
+      idleOnward = λ links p x. cell (links .next) x;
+      idleFits = λ links p x. eqb (cell (links .previous) x) 0;
+      nullTest = λ links. eqb (cell (links .next) nullSlot) 0 && eqb (cell (links .previous) nullSlot) 0;
+      fresh = λ links. twoWay (tabulate (length (links .next)) (freshNext (length (links .next)))) (tabulate (length (links .previous)) (λ slot. 0));
+      push = pushStep;
+      pop = popStep;
+    }
+
+-- ---- how the cases are written
+
+-- a list's head, tail, share and limit
+abbrev pub entry : ℕ → ℕ → ℕ → ℕ → Entry
+entry head tail share limit = record { head = head; tail = tail; share = share; limit = limit }
+
+abbrev pub none : ℕ → List Entry
+none n = replicate n zeroEntry
+
+-- the next and the previous links, the values, L, the entries and the free head, in a book of eight
+abbrev pub pool : List ℕ → List ℕ → List ℕ → ℕ → List Entry → ℕ → State trial
+pool next previous values lists entries free =
+    record { links = twoWay next previous; values = values; book = record { places = 8; lists = lists; entries = entries; free = record { head = free } } }
+
+-- x, its double, and so on, n of them: from 1 on, the numbers with one bit
+abbrev pub doubles : ℕ → ℕ → List ℕ
+doubles zero x = []
+doubles (suc n) x = x ∷ doubles n (x + x)
+
+-- each bit of a word, and of a value
+abbrev pub wordBits : List ℕ
+wordBits = doubles 16 1
+
+abbrev pub valueBits : List ℕ
+valueBits = doubles 64 1
+
+-- the largest value: all of its 64 bits are set
+abbrev pub allBits : ℕ
+allBits = 18446744073709551615
+
+-- a, a + 1, and so on, n of them
+abbrev pub numbersFrom : ℕ → ℕ → List ℕ
+numbersFrom a zero = []
+numbersFrom a (suc n) = a ∷ numbersFrom (suc a) n
+
+-- every word of a book with any number of places
+abbrev pub bookWords : AnyBook → List ℕ
+bookWords b = b .places ∷ b .lists ∷ b .free .head ∷ entryWords (b .entries)
+
+abbrev pub sameNumbers : List ℕ → List ℕ → Bool
+sameNumbers [] [] = true
+sameNumbers [] (y ∷ ys) = false
+sameNumbers (x ∷ xs) [] = false
+sameNumbers (x ∷ xs) (y ∷ ys) = eqb x y && sameNumbers xs ys
+
+-- every cell and every word is the same
+abbrev pub sameState : State trial → State trial → Bool
+sameState s t =
+    sameNumbers (s .links .next) (t .links .next)
+    && (sameNumbers (s .links .previous) (t .links .previous) && (sameNumbers (s .values) (t .values) && sameNumbers (bookWords (s .book)) (bookWords (t .book))))
