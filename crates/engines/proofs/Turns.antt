@@ -1,7 +1,7 @@
 -- Each number is given just where 01 says so, and each call leaves what 01 says: the calls of `Turns` and `Left`, computed.
 use mathlib.Core.Path.{_≡_, refl}
 use mathlib.Core.Bool.{true}
-use mathlib.Core.List.{List, [], _∷_}
+use mathlib.Core.List.{[], _∷_}
 use Rattle.books.specs.Tabulate.{tabulate}
 use Rattle.books.specs.Test.{isFair, isZero, gather, allZero, keepsRules}
 use Rattle.shapes.specs.Ends.{nearOf, withNear}

@@ -1,14 +1,14 @@
 -- What calls leave, over the engine `trial`: every cell and word after a setup, a push, a pop and a clear, the value that a pop hands out, the length, and the buffer of a read. Every bit of a value is tried; a value of a free slot is written as 0, and not as the wipe word.
 use mathlib.Core.Bool.{Bool, true, _&&_}
 use mathlib.Core.List.{List, [], _∷_, _++_, map}
-use Prim.Native.Nat.{ℕ, suc, _+_}
+use Prim.Native.Nat.{ℕ, _+_}
 use lib.Dec.{eqb}
 use lib.ListN.{set, replicate}
 use Rattle.books.specs.declared.Entry.{Entry}
 use Rattle.shapes.specs.declared.End.{End}
 use Rattle.shapes.specs.declared.End.the-variants.{Front, Back}
 use Rattle.shapes.specs.Moves.{Move, check, askLength, pushBack, pushFront, popBack, popFront, readForward, readBackward, clear}
-use Rattle.engines.specs.Calls.{Called, setupCall, lengthCall, pushCall, popCall, clearCall, readCall}
+use Rattle.engines.specs.Calls.{setupCall, lengthCall, pushCall, popCall, clearCall, readCall}
 use Rattle.engines.specs.Moves.{State, left, numberOf, after}
 use Rattle.engines.specs.Trial.{TwoWay, trial, twoWay, entry, none, pool, wordBits, valueBits, allBits, numbersFrom, sameNumbers, sameState}
 use Rattle.engines.specs.Turns.{trialP3}

@@ -1,6 +1,6 @@
 -- Pools over the engine `trial` with their first fault: the rule of 02 b), the list and the place. And pools of many slots.
 use mathlib.Core.Bool.{Bool, true, _&&_}
-use mathlib.Core.List.{List, [], _∷_, _++_}
+use mathlib.Core.List.{List, [], _∷_}
 use Prim.Native.Nat.{ℕ}
 use lib.Dec.{eqb}
 use lib.ListN.{set, replicate}

@@ -1,7 +1,7 @@
 -- An engine to compute with: two link slices, each slot's next and previous one. It is here so that the cases of `Edges` and `Turns` stand beside the definitions that they pin. No code runs it, and no law speaks of it.
 use mathlib.Core.Path.{_≡_}
 use mathlib.Core.Bool.{Bool, true, false, cond, not, _&&_}
-use mathlib.Core.List.{List, [], _∷_, _++_}
+use mathlib.Core.List.{List, [], _∷_}
 use Prim.Native.Nat.{ℕ, zero, suc, _+_}
 use lib.Dec.{ltb, eqb}
 use lib.ListN.{length, set, replicate}
@@ -14,6 +14,7 @@ use Rattle.shapes.specs.declared.End.{End}
 use Rattle.shapes.specs.declared.End.the-variants.{Front, Back}
 use Rattle.shapes.specs.Ends.{nearOf, withNear, withBoth, emptied}
 use Rattle.shapes.specs.Walk.{Tied}
+use Rattle.shapes.specs.Sides.{doubles}
 use Rattle.engines.specs.Engine.{Engine, Step}
 use Rattle.engines.specs.Moves.{State}
 
@@ -108,11 +109,6 @@ none n = replicate n zeroEntry
 abbrev pub pool : List ℕ → List ℕ → List ℕ → ℕ → List Entry → ℕ → State trial
 pool next previous values lists entries free =
     record { links = twoWay next previous; values = values; book = record { places = 8; lists = lists; entries = entries; free = record { head = free } } }
-
--- x, its double, and so on, n of them: from 1 on, the numbers with one bit
-abbrev pub doubles : ℕ → ℕ → List ℕ
-doubles zero x = []
-doubles (suc n) x = x ∷ doubles n (x + x)
 
 -- each bit of a word, and of a value
 abbrev pub wordBits : List ℕ

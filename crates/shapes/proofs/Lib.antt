@@ -8,3 +8,4 @@ pub mod Going
 pub mod Walks
 pub mod Tried
 pub mod Changes
+pub mod Sides

@@ -10,3 +10,4 @@ pub mod Faults
 pub mod Setup
 pub mod Moves
 pub mod Ledger
+pub mod Sides
