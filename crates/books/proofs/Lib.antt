@@ -9,3 +9,4 @@ pub mod Fill
 pub mod Stored
 pub mod Table
 pub mod OneResult
+pub mod Tried

@@ -6,3 +6,4 @@ pub mod Outcome
 pub mod Tabulate
 pub mod Words
 pub mod Table
+pub mod Tried

@@ -6,9 +6,9 @@ use lib.Dec.{eqb}
 use lib.ListN.{replicate}
 use Rattle.books.specs.declared.Book.{Book}
 use Rattle.books.specs.Book.{zeroEntry, wordsOf}
+use Rattle.books.specs.Tried.{sameNumbers}
 use Rattle.xor.specs.Ten.{setupOf, popBackOf, popFrontOf}
 use Rattle.xor.specs.Moves.{Pool, poolLeft, numberGiven, poolAfter}
-use Rattle.engines.specs.Trial.{sameNumbers}
 use Rattle.shapes.specs.Moves.{Move, check, askLength, pushBack, pushFront, popBack, popFront, readForward, readBackward, clear}
 
 -- a call, and what it must give: the number, the value handed out, 0 for none, and every cell and word afterwards

@@ -5,9 +5,10 @@ use Prim.Native.Nat.{ℕ, suc, _+_}
 use lib.Dec.{eqb}
 use lib.ListN.{set, replicate}
 use Rattle.books.specs.declared.Entry.{Entry}
+use Rattle.books.specs.Tried.{entry, none, wordBits, valueBits, allBits, numbersFrom}
 use Rattle.engines.specs.Check.{lookOf}
 use Rattle.engines.specs.Moves.{State}
-use Rattle.engines.specs.Trial.{trial, entry, none, pool, wordBits, valueBits, allBits, numbersFrom}
+use Rattle.engines.specs.Trial.{trial, pool}
 
 -- a pool with its book, and the number that a look must give
 pub record LookCase : Type 0 where

@@ -5,12 +5,13 @@ use Prim.Native.Nat.{ℕ, _+_}
 use lib.Dec.{eqb}
 use lib.ListN.{set, replicate}
 use Rattle.books.specs.declared.Entry.{Entry}
+use Rattle.books.specs.Tried.{entry, none, wordBits, valueBits, allBits, numbersFrom, sameNumbers}
 use Rattle.shapes.specs.declared.End.{End}
 use Rattle.shapes.specs.declared.End.the-variants.{Front, Back}
 use Rattle.shapes.specs.Moves.{Move, check, askLength, pushBack, pushFront, popBack, popFront, readForward, readBackward, clear}
 use Rattle.engines.specs.Calls.{setupCall, lengthCall, pushCall, popCall, clearCall, readCall}
 use Rattle.engines.specs.Moves.{State, left, numberOf, after}
-use Rattle.engines.specs.Trial.{TwoWay, trial, twoWay, entry, none, pool, wordBits, valueBits, allBits, numbersFrom, sameNumbers, sameState}
+use Rattle.engines.specs.Trial.{TwoWay, trial, twoWay, pool, sameState}
 use Rattle.engines.specs.Turns.{trialP3}
 
 -- ---- calls on a pool

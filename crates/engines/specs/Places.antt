@@ -5,12 +5,13 @@ use Prim.Native.Nat.{ℕ}
 use lib.Dec.{eqb}
 use lib.ListN.{set, replicate}
 use Rattle.books.specs.declared.Entry.{Entry}
+use Rattle.books.specs.Tried.{entry, none}
 use Rattle.shapes.specs.declared.Fault.{Fault}
 use Rattle.shapes.specs.Faults.{fault}
 use Rattle.engines.specs.Check.{checkFound}
 use Rattle.engines.specs.Calls.{setupCall}
 use Rattle.engines.specs.Moves.{State, left}
-use Rattle.engines.specs.Trial.{trial, twoWay, entry, none, pool}
+use Rattle.engines.specs.Trial.{trial, twoWay, pool}
 
 -- a pool with its book, and its first fault
 pub record FaultCase : Type 0 where

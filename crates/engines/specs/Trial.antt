@@ -1,20 +1,20 @@
 -- An engine to compute with: two link slices, each slot's next and previous one. It is here so that the cases of `Edges` and `Turns` stand beside the definitions that they pin. No code runs it, and no law speaks of it.
 use mathlib.Core.Path.{_≡_}
-use mathlib.Core.Bool.{Bool, true, false, cond, not, _&&_}
-use mathlib.Core.List.{List, [], _∷_}
-use Prim.Native.Nat.{ℕ, zero, suc, _+_}
+use mathlib.Core.Bool.{Bool, cond, not, _&&_}
+use mathlib.Core.List.{List, _∷_}
+use Prim.Native.Nat.{ℕ, _+_}
 use lib.Dec.{ltb, eqb}
-use lib.ListN.{length, set, replicate}
+use lib.ListN.{length, set}
 use Rattle.books.specs.declared.Free.{Free}
 use Rattle.books.specs.declared.Entry.{Entry}
-use Rattle.books.specs.Book.{nullSlot, wipeWord, zeroEntry, entryWords, AnyBook}
+use Rattle.books.specs.Book.{nullSlot, wipeWord, entryWords, AnyBook}
 use Rattle.books.specs.Tabulate.{tabulate}
+use Rattle.books.specs.Tried.{sameNumbers}
 use Rattle.chains.specs.Chain.{cell}
 use Rattle.shapes.specs.declared.End.{End}
 use Rattle.shapes.specs.declared.End.the-variants.{Front, Back}
 use Rattle.shapes.specs.Ends.{nearOf, withNear, withBoth, emptied}
 use Rattle.shapes.specs.Walk.{Tied}
-use Rattle.shapes.specs.Sides.{doubles}
 use Rattle.engines.specs.Engine.{Engine, Step}
 use Rattle.engines.specs.Moves.{State}
 
@@ -98,43 +98,14 @@ trial =
 
 -- ---- how the cases are written
 
--- a list's head, tail, share and limit
-abbrev pub entry : ℕ → ℕ → ℕ → ℕ → Entry
-entry head tail share limit = record { head = head; tail = tail; share = share; limit = limit }
-
-abbrev pub none : ℕ → List Entry
-none n = replicate n zeroEntry
-
 -- the next and the previous links, the values, L, the entries and the free head, in a book of eight
 abbrev pub pool : List ℕ → List ℕ → List ℕ → ℕ → List Entry → ℕ → State trial
 pool next previous values lists entries free =
     record { links = twoWay next previous; values = values; book = record { places = 8; lists = lists; entries = entries; free = record { head = free } } }
 
--- each bit of a word, and of a value
-abbrev pub wordBits : List ℕ
-wordBits = doubles 16 1
-
-abbrev pub valueBits : List ℕ
-valueBits = doubles 64 1
-
--- the largest value: all of its 64 bits are set
-abbrev pub allBits : ℕ
-allBits = 18446744073709551615
-
--- a, a + 1, and so on, n of them
-abbrev pub numbersFrom : ℕ → ℕ → List ℕ
-numbersFrom a zero = []
-numbersFrom a (suc n) = a ∷ numbersFrom (suc a) n
-
 -- every word of a book with any number of places
 abbrev pub bookWords : AnyBook → List ℕ
 bookWords b = b .places ∷ b .lists ∷ b .free .head ∷ entryWords (b .entries)
-
-abbrev pub sameNumbers : List ℕ → List ℕ → Bool
-sameNumbers [] [] = true
-sameNumbers [] (y ∷ ys) = false
-sameNumbers (x ∷ xs) [] = false
-sameNumbers (x ∷ xs) (y ∷ ys) = eqb x y && sameNumbers xs ys
 
 -- every cell and every word is the same
 abbrev pub sameState : State trial → State trial → Bool

@@ -5,9 +5,10 @@ use Prim.Native.Nat.{ℕ, suc, _+_}
 use lib.Dec.{eqb}
 use lib.ListN.{set, replicate}
 use Rattle.books.specs.declared.Entry.{Entry}
+use Rattle.books.specs.Tried.{entry, none, wordBits, allBits, numbersFrom}
 use Rattle.shapes.specs.Moves.{Move, check, askLength, pushBack, pushFront, popBack, popFront, readForward, readBackward, clear}
 use Rattle.engines.specs.Moves.{State, numberOf}
-use Rattle.engines.specs.Trial.{trial, entry, none, pool, wordBits, allBits, numbersFrom}
+use Rattle.engines.specs.Trial.{trial, pool}
 
 -- a pool, a call, and the number that it must give
 pub record Asked : Type 0 where

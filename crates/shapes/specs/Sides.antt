@@ -1,9 +1,10 @@
 -- Cases on both sides of what runs below the calls: the tests 5 to 8, the lowest slot that is not wiped, a walk, and the faults that the check gathers. Every bit of a value is tried.
 use mathlib.Core.Bool.{Bool, true, false, _&&_}
 use mathlib.Core.List.{List, [], _∷_, _++_, map}
-use Prim.Native.Nat.{ℕ, zero, suc, _+_}
+use Prim.Native.Nat.{ℕ, _+_}
 use lib.Dec.{eqb}
 use lib.ListN.{set, replicate}
+use Rattle.books.specs.Tried.{wordBits, valueBits, allBits, sameNumbers, sameAnswer, entry}
 use Rattle.chains.specs.Chain.{cell}
 use Rattle.shapes.specs.declared.Fault.{Fault}
 use Rattle.shapes.specs.Numbers.{firstThat}
@@ -24,16 +25,11 @@ abbrev pub pairsPass : List NumberPair → Bool
 pairsPass [] = true
 pairsPass (p ∷ ps) = eqb (p .is) (p .must) && pairsPass ps
 
--- x, its double, and so on, n of them: from 1 on, the numbers with one bit
-abbrev pub doubles : ℕ → ℕ → List ℕ
-doubles zero x = []
-doubles (suc n) x = x ∷ doubles n (x + x)
-
 -- ---- the numbers 5 to 8
 
 -- a push on a list with this share and limit and so many slots, where so much is lacked and so many are free
 abbrev pushed : ℕ → ℕ → ℕ → ℕ → ℕ → ℕ
-pushed share limit many lacking free = firstThat (pushOwnTests (record { head = 0; tail = 0; share = share; limit = limit }) many lacking free)
+pushed share limit many lacking free = firstThat (pushOwnTests (entry 0 0 share limit) many lacking free)
 
 abbrev popped : ℕ → ℕ
 popped many = firstThat (popOwnTests many)
@@ -92,14 +88,14 @@ ownNumbers =
     ∷ (readInto 4095 4096 1 is 0)
     ∷ (readInto 4095 4096 2 is 8)
     -- a place so far on that the place of the last value would be a small number again
-    ∷ (readInto 3 5 18446744073709551615 is 8)
-    ∷ map (λ b. readInto 0 5 (5 + b) is 8) (doubles 64 1)
+    ∷ (readInto 3 5 allBits is 8)
+    ∷ map (λ b. readInto 0 5 (5 + b) is 8) valueBits
     -- each bit of a length, a limit, a share and of how many are free
-    ++ map (λ b. popped b is 0) (doubles 16 1)
-    ++ map (λ b. pushed 0 (b + 3) 3 0 1 is 0) (doubles 16 1)
-    ++ map (λ b. pushed (b + 3) (b + 3) 3 9 9 is 0) (doubles 16 1)
-    ++ map (λ b. pushed 0 9 3 3 (b + 3) is 0) (doubles 16 1)
-    ++ map (λ b. pushed 0 9 3 (b + 3) 3 is 7) (doubles 16 1)
+    ++ map (λ b. popped b is 0) wordBits
+    ++ map (λ b. pushed 0 (b + 3) 3 0 1 is 0) wordBits
+    ++ map (λ b. pushed (b + 3) (b + 3) 3 9 9 is 0) wordBits
+    ++ map (λ b. pushed 0 9 3 3 (b + 3) is 0) wordBits
+    ++ map (λ b. pushed 0 9 3 (b + 3) 3 is 7) wordBits
 
 -- ---- the free slots that are not wiped
 
@@ -113,12 +109,12 @@ unwipedSlots =
     ∷ (unwipedFrom (0 ∷ 0 ∷ 0 ∷ 1 ∷ []) (1 ∷ 2 ∷ 3 ∷ []) 0 is 3)
     ∷ (unwipedFrom (0 ∷ 0 ∷ 1 ∷ 1 ∷ []) (3 ∷ 2 ∷ 1 ∷ []) 0 is 2)
     ∷ (unwipedFrom (0 ∷ 1 ∷ 1 ∷ 1 ∷ []) (3 ∷ 1 ∷ 2 ∷ []) 0 is 1)
-    ∷ (unwipedFrom (0 ∷ 18446744073709551615 ∷ []) (1 ∷ []) 0 is 1)
+    ∷ (unwipedFrom (0 ∷ allBits ∷ []) (1 ∷ []) 0 is 1)
     -- in the last slot of the largest pool
     ∷ (unwipedFrom (set (replicate 4096 0) 4095 9223372036854775808) (4095 ∷ []) 0 is 4095)
     ∷ (unwipedFrom (replicate 4096 0) (4095 ∷ []) 0 is 0)
-    ∷ map (λ b. unwipedFrom (0 ∷ b ∷ []) (1 ∷ []) 0 is 1) (doubles 64 1)
-    ++ map (λ b. unwipedFrom (0 ∷ 0 ∷ 0 ∷ b ∷ []) (1 ∷ 3 ∷ 2 ∷ []) 0 is 3) (doubles 64 1)
+    ∷ map (λ b. unwipedFrom (0 ∷ b ∷ []) (1 ∷ []) 0 is 1) valueBits
+    ++ map (λ b. unwipedFrom (0 ∷ 0 ∷ 0 ∷ b ∷ []) (1 ∷ 3 ∷ 2 ∷ []) 0 is 3) valueBits
 
 -- ---- a walk
 
@@ -163,20 +159,9 @@ walksTried =
     ∷ walk (five 0 2 3 4 0) 5 9 (five 1 0 0 0 0) 1 false []
     ∷ []
 
-abbrev sameSlots : List ℕ → List ℕ → Bool
-sameSlots [] [] = true
-sameSlots [] (y ∷ ys) = false
-sameSlots (x ∷ xs) [] = false
-sameSlots (x ∷ xs) (y ∷ ys) = eqb x y && sameSlots xs ys
-
-abbrev sameAnswer : Bool → Bool → Bool
-sameAnswer true b = b
-sameAnswer false true = false
-sameAnswer false false = true
-
 abbrev pub walksPass : List WalkCase → Bool
 walksPass [] = true
-walksPass (w ∷ ws) = sameAnswer (w .path .ok) (w .ended) && (sameSlots (w .path .slots) (w .slots) && walksPass ws)
+walksPass (w ∷ ws) = sameAnswer (w .path .ok) (w .ended) && (sameNumbers (w .path .slots) (w .slots) && walksPass ws)
 
 -- ---- the faults
 

@@ -1,0 +1,42 @@
+-- The books and sizes of `Tried` are told as they must be; the whole table of numbers; and the words of a book in their order. Computed.
+use mathlib.Core.Path.{_≡_, refl}
+use mathlib.Core.Bool.{true, false}
+use mathlib.Core.List.{[], _∷_}
+use Rattle.books.specs.Book.{wipeWord, smallestPool, largestPool, wordsOf}
+use Rattle.books.specs.Words.{bookFrom}
+use Rattle.books.specs.Tabulate.{tabulate}
+use Rattle.books.specs.Table.{mayGive}
+use Rattle.books.specs.Test.{isFair, isZero, gather, allZero, keepsRules}
+use Rattle.books.specs.Tried.{ruledTried, ruledPass, sizesSaid, numberedBook, numbersFrom}
+
+pub book-rules-tried : ruledPass ruledTried ≡ true
+unfolding isFair isZero gather allZero keepsRules
+book-rules-tried = refl
+
+pub all-sizes-tried : sizesSaid ≡ false ∷ false ∷ true ∷ true ∷ true ∷ true ∷ true ∷ true ∷ true ∷ false ∷ false ∷ false ∷ false ∷ false ∷ false ∷ false ∷ false ∷ []
+all-sizes-tried = refl
+
+-- 01: "every free slot's value is 0"; "N runs from 2 to 4,096"
+pub constants-are : (wipeWord ≡ 0) × (smallestPool ≡ 2) × (largestPool ≡ 4096)
+constants-are = (refl, refl, refl)
+
+-- 01's table, all of its ten rows and nine columns
+pub whole-table : tabulate 10 (λ call. tabulate 9 (mayGive call)) ≡
+    (true ∷ true ∷ true ∷ false ∷ false ∷ false ∷ false ∷ false ∷ false ∷ [])
+    ∷ (true ∷ true ∷ false ∷ true ∷ false ∷ false ∷ false ∷ false ∷ false ∷ [])
+    ∷ (true ∷ true ∷ false ∷ true ∷ true ∷ false ∷ false ∷ false ∷ false ∷ [])
+    ∷ (true ∷ true ∷ false ∷ true ∷ true ∷ false ∷ true ∷ true ∷ false ∷ [])
+    ∷ (true ∷ true ∷ false ∷ true ∷ true ∷ false ∷ true ∷ true ∷ false ∷ [])
+    ∷ (true ∷ true ∷ false ∷ true ∷ true ∷ true ∷ false ∷ false ∷ false ∷ [])
+    ∷ (true ∷ true ∷ false ∷ true ∷ true ∷ true ∷ false ∷ false ∷ false ∷ [])
+    ∷ (true ∷ true ∷ false ∷ true ∷ true ∷ false ∷ false ∷ false ∷ true ∷ [])
+    ∷ (true ∷ true ∷ false ∷ true ∷ true ∷ false ∷ false ∷ false ∷ true ∷ [])
+    ∷ (true ∷ true ∷ false ∷ true ∷ true ∷ false ∷ false ∷ false ∷ false ∷ [])
+    ∷ []
+unfolding mayGive tabulate
+whole-table = refl
+
+-- a book's words in their order, and the book that they are
+pub words-tried : (wordsOf numberedBook ≡ numbersFrom 1 34) × (bookFrom (numbersFrom 1 34) ≡ numberedBook)
+unfolding tabulate
+words-tried = (refl, refl)
