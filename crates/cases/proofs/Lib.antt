@@ -1,3 +1,4 @@
 -- The cases pass, each by one computed test.
 pub mod Cases
 pub mod Reach
+pub mod Unmarked

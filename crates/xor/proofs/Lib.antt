@@ -14,6 +14,7 @@ pub mod Plain
 pub mod OneResult
 pub mod Cells
 pub mod Edges
+pub mod Bits
 pub mod Tried
 pub mod Traces
 pub mod Named

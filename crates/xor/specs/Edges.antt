@@ -3,9 +3,9 @@ use mathlib.Core.Bool.{Bool, true, _&&_}
 use mathlib.Core.List.{List, [], _∷_, _++_}
 use Prim.Native.Nat.{ℕ}
 use lib.Dec.{eqb}
-use lib.ListN.{replicate}
 use Rattle.books.specs.declared.Entry.{Entry}
-use Rattle.books.specs.Book.{zeroEntry, mostLists, AnyBook}
+use Rattle.books.specs.Book.{mostLists, AnyBook}
+use Rattle.books.specs.Tried.{entry, none}
 use Rattle.shapes.specs.declared.Fault.{Fault}
 use Rattle.shapes.specs.Faults.{fault}
 use Rattle.engines.specs.Check.{checkFound, lookOf}
@@ -18,16 +18,9 @@ pub record Edge : Type 0 where
   pub values : List ℕ
   pub book : AnyBook
 
-abbrev edge : ℕ → List ℕ → List ℕ → ℕ → List Entry → ℕ → Edge
+abbrev pub edge : ℕ → List ℕ → List ℕ → ℕ → List Entry → ℕ → Edge
 edge number links values lists entries free =
     record { number = number; links = links; values = values; book = record { places = mostLists; lists = lists; entries = entries; free = record { head = free } } }
-
--- a list's head, tail, share and limit
-abbrev entry : ℕ → ℕ → ℕ → ℕ → Entry
-entry head tail share limit = record { head = head; tail = tail; share = share; limit = limit }
-
-abbrev none : ℕ → List Entry
-none n = replicate n zeroEntry
 
 abbrev pub edges : List Edge
 edges =

@@ -11,3 +11,4 @@ pub mod Along
 pub mod ClearDone
 pub mod Moves
 pub mod Edges
+pub mod Bits

@@ -1,0 +1,33 @@
+-- The pools of `Bits` are accepted or refused by their number, and every bit of a value goes through the steps. Computed.
+use mathlib.Core.Path.{_≡_, refl}
+use mathlib.Core.Bool.{true, false}
+use mathlib.Core.List.{[], _∷_}
+use Rattle.books.specs.Test.{isFair, isZero, gather, allZero, keepsRules}
+use Rattle.books.specs.Tried.{valueBits, allBits}
+use Rattle.shapes.specs.Ends.{nearOf, withNear}
+use Rattle.shapes.specs.Met.{isMetOf, markOf, unmet}
+use Rattle.shapes.specs.Walk.{walkOn, walkable}
+use Rattle.shapes.specs.Faults.{nothingMet, spareFault, idleFault}
+use Rattle.engines.specs.Check.{sizesFit, idlePath, gatherAll, nullSlotZero, poolFound, checkFound, lookOf}
+use Rattle.xor.specs.Slot.{inPool}
+use Rattle.xor.specs.Slots.{takeOf, releaseOf}
+use Rattle.xor.specs.Steps.{isBeside, pushEmptyOf, pushBesideOf, pushOf, popOf}
+use Rattle.xor.specs.Engine.{freshLink}
+use Rattle.xor.specs.Edges.{edgesPass}
+use Rattle.xor.specs.Bits.{oneBit, allThrough, slotsSaid, freshSaid}
+
+pub every-bit-asked : edgesPass oneBit ≡ true
+unfolding isFair isZero gather allZero keepsRules nothingMet gatherAll spareFault idleFault nullSlotZero poolFound checkFound sizesFit lookOf isMetOf markOf unmet walkOn walkable idlePath
+every-bit-asked = refl
+
+pub every-bit-through : allThrough (0 ∷ allBits ∷ valueBits) ≡ true
+unfolding nearOf withNear inPool takeOf releaseOf isBeside pushEmptyOf pushBesideOf pushOf popOf
+every-bit-through = refl
+
+pub slots-tried : slotsSaid ≡ false ∷ true ∷ true ∷ false ∷ false ∷ false ∷ false ∷ false ∷ false ∷ []
+unfolding inPool
+slots-tried = refl
+
+pub fresh-links-tried : freshSaid ≡ 0 ∷ 0 ∷ 2 ∷ 0 ∷ 0 ∷ 2 ∷ 256 ∷ 4095 ∷ 0 ∷ []
+unfolding freshLink
+fresh-links-tried = refl

@@ -1,0 +1,110 @@
+-- Pools of the XOR list in which one bit is wrong, each with the number that a look must give: every bit of slot 0, of a free slot, of a live slot's link, of the ends and the free head. And values bit by bit through the steps.
+use mathlib.Core.Bool.{Bool, true, _&&_}
+use mathlib.Core.List.{List, [], _∷_, _++_, map}
+use Prim.Native.Nat.{ℕ}
+use lib.Bits.{bitXor}
+use lib.Dec.{eqb}
+use lib.ListN.{set}
+use Rattle.books.specs.Tried.{wordBits, valueBits, allBits, sameNumbers, entry, none}
+use Rattle.chains.specs.Chain.{cell}
+use Rattle.shapes.specs.declared.End.{End}
+use Rattle.shapes.specs.declared.End.the-variants.{Front, Back}
+use Rattle.xor.specs.Slot.{inPool}
+use Rattle.xor.specs.Steps.{pushOf, popOf}
+use Rattle.xor.specs.Engine.{freshLink}
+use Rattle.xor.specs.Edges.{Edge, edge}
+
+-- N = 2 and one list, share 0 and limit 1: slot 1 is free, or it is the list's. Its link and its value
+abbrev oneFree : ℕ → ℕ → ℕ → Edge
+oneFree number link value = edge number (0 ∷ link ∷ []) (0 ∷ value ∷ []) 1 (entry 0 0 0 1 ∷ none 7) 1
+
+abbrev oneLive : ℕ → ℕ → ℕ → Edge
+oneLive number link value = edge number (0 ∷ link ∷ []) (0 ∷ value ∷ []) 1 (entry 1 1 0 1 ∷ none 7) 0
+
+-- slot 0's link and value, where slot 1 is free
+abbrev nullHas : ℕ → ℕ → Edge
+nullHas link value = edge 3 (link ∷ 0 ∷ []) (value ∷ 0 ∷ []) 1 (entry 0 0 0 1 ∷ none 7) 1
+
+abbrev four : ℕ → ℕ → ℕ → ℕ → List ℕ
+four a b c d = a ∷ b ∷ c ∷ d ∷ []
+
+-- N = 4: slots 1, 2 and 3 are one list's in this order, and so are their links; or they are free
+abbrev threeLive : ℕ → List ℕ → ℕ → ℕ → Edge
+threeLive number links head tail = edge number links (four 0 7 allBits 9) 1 (entry head tail 0 3 ∷ none 7) 0
+
+abbrev threeFree : ℕ → List ℕ → List ℕ → ℕ → Edge
+threeFree number links values free = edge number links values 1 (entry 0 0 0 3 ∷ none 7) free
+
+-- the cell of a slot with one bit the other way
+abbrev flipped : List ℕ → ℕ → ℕ → List ℕ
+flipped cells slot bit = set cells slot (bitXor (cell cells slot) bit)
+
+abbrev pub oneBit : List Edge
+oneBit =
+    -- sound: a live slot may hold any value, a link may be N or more (01's P8), a list may have every slot
+    oneFree 0 0 0
+    ∷ oneLive 0 0 0
+    ∷ oneLive 0 0 allBits
+    ∷ threeLive 0 (four 0 2 2 2) 1 3
+    ∷ threeFree 0 (four 0 2 3 0) (four 0 0 0 0) 1
+    ∷ edge 0 (0 ∷ 7 ∷ 5 ∷ 1 ∷ 1 ∷ 0 ∷ []) (0 ∷ 200 ∷ 0 ∷ 100 ∷ 300 ∷ 0 ∷ []) 1 (entry 3 4 0 5 ∷ none 7) 2
+    -- "every free slot's value is 0; slot 0 has link 0 and value 0"
+    ∷ oneFree 3 0 allBits
+    ∷ nullHas 0 allBits
+    ∷ nullHas 65535 0
+    ∷ map (λ b. oneFree 3 0 b) valueBits
+    ++ map (λ b. nullHas 0 b) valueBits
+    ++ map (λ b. oneLive 0 0 b) valueBits
+    ++ map (λ b. nullHas b 0) wordBits
+    ++ map (λ b. threeFree 3 (four 0 2 3 0) (four 0 b 0 0) 1) valueBits
+    ++ map (λ b. threeFree 3 (four 0 2 3 0) (four 0 0 b 0) 1) valueBits
+    ++ map (λ b. threeFree 3 (four 0 2 3 0) (four 0 0 0 b) 1) valueBits
+    -- "a live slot's link is the XOR of the slots before and after it": of an only slot, and of a first, a middle and a last one
+    ++ map (λ b. oneLive 3 b 5) wordBits
+    ++ map (λ b. threeLive 3 (flipped (four 0 2 2 2) 1 b) 1 3) wordBits
+    ++ map (λ b. threeLive 3 (flipped (four 0 2 2 2) 2 b) 1 3) wordBits
+    ++ map (λ b. threeLive 3 (flipped (four 0 2 2 2) 3 b) 1 3) wordBits
+    -- "a free slot's link is the next free slot, 0 at the last"
+    ++ map (λ b. oneFree 3 b 0) wordBits
+    ++ map (λ b. threeFree 3 (flipped (four 0 2 3 0) 1 b) (four 0 0 0 0) 1) wordBits
+    ++ map (λ b. threeFree 3 (flipped (four 0 2 3 0) 2 b) (four 0 0 0 0) 1) wordBits
+    ++ map (λ b. threeFree 3 (flipped (four 0 2 3 0) 3 b) (four 0 0 0 0) 1) wordBits
+    -- "head and tail are the first and last slot of its sequence"; "the free head is the first free slot"
+    ++ map (λ b. threeLive 3 (four 0 2 2 2) (bitXor 1 b) 3) wordBits
+    ++ map (λ b. threeLive 3 (four 0 2 2 2) 1 (bitXor 3 b)) wordBits
+    ++ map (λ b. threeFree 3 (four 0 2 3 0) (four 0 0 0 0) (bitXor 1 b)) wordBits
+
+-- ---- the steps
+
+-- one list of six slots, share 2 and limit 5
+abbrev six : ℕ → ℕ → ℕ → ℕ → ℕ → ℕ → List ℕ
+six a b c d e f = a ∷ b ∷ c ∷ d ∷ e ∷ f ∷ []
+
+-- a value that is pushed behind slot 1 stands in slot 2 with all its bits; popped from there it is handed out whole, and slot 2 holds 0
+abbrev pub throughSteps : End → ℕ → Bool
+throughSteps end value =
+    let list = entry 1 1 2 5 in
+    let pushed = pushOf end (six 0 0 3 4 5 0) (six 0 8 0 0 0 0) list (record { head = 2 }) value in
+    let popped = popOf end (pushed .links) (pushed .values) (pushed .answer .entry) (pushed .answer .free) in
+    sameNumbers (pushed .links) (six 0 2 1 4 5 0)
+    && (sameNumbers (pushed .values) (six 0 8 value 0 0 0)
+    && (eqb (popped .answer .value) value
+    && (sameNumbers (popped .links) (six 0 0 3 4 5 0) && sameNumbers (popped .values) (six 0 8 0 0 0 0))))
+
+abbrev pub allThrough : List ℕ → Bool
+allThrough [] = true
+allThrough (v ∷ vs) = throughSteps Front v && (throughSteps Back v && allThrough vs)
+
+-- ---- the slots
+
+-- which numbers are slots of a pool of so many links and values
+abbrev pub slotsSaid : List Bool
+slotsSaid =
+    map (λ slot. inPool (six 0 0 0 0 0 0) (six 0 0 0 0 0 0) slot) (0 ∷ 1 ∷ 5 ∷ 6 ∷ 4096 ∷ 4097 ∷ 32769 ∷ [])
+    ++ inPool (six 0 0 0 0 0 0) (0 ∷ 0 ∷ []) 2
+    ∷ inPool (0 ∷ 0 ∷ []) (six 0 0 0 0 0 0) 2
+    ∷ []
+
+-- "links 1 to 2, 2 to 3, and so on, the last 0", in the least pool and in the largest
+abbrev pub freshSaid : List ℕ
+freshSaid = freshLink 2 0 ∷ freshLink 2 1 ∷ freshLink 3 1 ∷ freshLink 3 2 ∷ freshLink 4096 0 ∷ freshLink 4096 1 ∷ freshLink 4096 255 ∷ freshLink 4096 4094 ∷ freshLink 4096 4095 ∷ []
