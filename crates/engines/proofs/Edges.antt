@@ -1,12 +1,15 @@
 -- Each clause of 01's "sound" and of the book rules is asked for, bit by bit and list by list: the pools of `Edges` are accepted or refused by their number. Computed.
 use mathlib.Core.Path.{_≡_, refl}
+use mathlib.Core.Logic.{_≢_}
 use mathlib.Core.Bool.{true}
+use Prim.Native.Nat.{ℕ}
+use borrow.Author.Tests.{ne-eqb}
 use Rattle.books.specs.Test.{isFair, isZero, gather, allZero, keepsRules}
 use Rattle.shapes.specs.Met.{isMetOf, markOf, unmet}
 use Rattle.shapes.specs.Walk.{walkOn, walkable}
 use Rattle.shapes.specs.Faults.{nothingMet, spareFault, idleFault}
 use Rattle.engines.specs.Check.{sizesFit, idlePath, gatherAll, nullSlotZero, poolFound, checkFound, lookOf}
-use Rattle.engines.specs.Edges.{bits, chains, once, everyList, books, looksPass}
+use Rattle.engines.specs.Edges.{oneFree, oneLive, nullHas, numberSeen, bits, chains, once, everyList, books, looksPass}
 
 pub bits-tried : looksPass bits ≡ true
 unfolding isFair isZero gather allZero keepsRules nothingMet gatherAll spareFault idleFault nullSlotZero poolFound checkFound sizesFit lookOf isMetOf markOf unmet walkOn walkable idlePath
@@ -27,3 +30,23 @@ every-list-tried = refl
 pub books-tried : looksPass books ≡ true
 unfolding isFair isZero gather allZero keepsRules nothingMet gatherAll spareFault idleFault nullSlotZero poolFound checkFound sizesFit lookOf isMetOf markOf unmet walkOn walkable idlePath
 books-tried = refl
+
+-- ---- of every number, and not of one bit alone
+
+-- 01: "every free slot's value is 0; slot 0 has link 0 and value 0": no other number passes
+pub free-value-zero : (v : ℕ) → v ≢ 0 → numberSeen (oneFree 3 0 0 v) ≡ 3
+unfolding isFair isZero gather allZero keepsRules nothingMet gatherAll spareFault idleFault nullSlotZero poolFound checkFound sizesFit lookOf isMetOf markOf unmet walkOn walkable idlePath
+free-value-zero v d = rw (numberSeen, ne-eqb v 0 d)
+
+pub null-value-zero : (v : ℕ) → v ≢ 0 → numberSeen (nullHas 0 0 v) ≡ 3
+unfolding isFair isZero gather allZero keepsRules nothingMet gatherAll spareFault idleFault nullSlotZero poolFound checkFound sizesFit lookOf isMetOf markOf unmet walkOn walkable idlePath
+null-value-zero v d = rw (numberSeen, ne-eqb v 0 d)
+
+pub null-links-zero : (n : ℕ) → n ≢ 0 → (numberSeen (nullHas n 0 0) ≡ 3) × (numberSeen (nullHas 0 n 0) ≡ 3)
+unfolding isFair isZero gather allZero keepsRules nothingMet gatherAll spareFault idleFault nullSlotZero poolFound checkFound sizesFit lookOf isMetOf markOf unmet walkOn walkable idlePath
+null-links-zero n d = rw (numberSeen, ne-eqb n 0 d) (refl, refl)
+
+-- a live slot's value may be any
+pub live-value-any : (v : ℕ) → numberSeen (oneLive 0 0 0 v) ≡ 0
+unfolding isFair isZero gather allZero keepsRules nothingMet gatherAll spareFault idleFault nullSlotZero poolFound checkFound sizesFit lookOf isMetOf markOf unmet walkOn walkable idlePath
+live-value-any v = refl

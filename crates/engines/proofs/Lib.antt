@@ -34,3 +34,4 @@ pub mod Rows
 pub mod Edges
 pub mod Turns
 pub mod Places
+pub mod Wiped

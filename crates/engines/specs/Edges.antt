@@ -19,14 +19,14 @@ abbrev edge : ℕ → List ℕ → List ℕ → List ℕ → ℕ → List Entry 
 edge number next previous values lists entries free = record { number = number; state = pool next previous values lists entries free }
 
 -- N = 2 and one list, share 0 and limit 1: slot 1 is free, or it is the list's. Its links and its value
-abbrev oneFree : ℕ → ℕ → ℕ → ℕ → LookCase
+abbrev pub oneFree : ℕ → ℕ → ℕ → ℕ → LookCase
 oneFree number next previous value = edge number (0 ∷ next ∷ []) (0 ∷ previous ∷ []) (0 ∷ value ∷ []) 1 (entry 0 0 0 1 ∷ none 7) 1
 
-abbrev oneLive : ℕ → ℕ → ℕ → ℕ → LookCase
+abbrev pub oneLive : ℕ → ℕ → ℕ → ℕ → LookCase
 oneLive number next previous value = edge number (0 ∷ next ∷ []) (0 ∷ previous ∷ []) (0 ∷ value ∷ []) 1 (entry 1 1 0 1 ∷ none 7) 0
 
 -- slot 0's links and value, where slot 1 is free
-abbrev nullHas : ℕ → ℕ → ℕ → LookCase
+abbrev pub nullHas : ℕ → ℕ → ℕ → LookCase
 nullHas next previous value = edge 3 (next ∷ 0 ∷ []) (previous ∷ 0 ∷ []) (value ∷ 0 ∷ []) 1 (entry 0 0 0 1 ∷ none 7) 1
 
 -- 01: "slot 0 has link 0 and value 0"; "every free slot's value is 0"; "a live slot's link"; "a free slot's link is .. 0 at the last": bit by bit. A live slot's value may be any
@@ -177,7 +177,11 @@ books =
 abbrev pub everyList : List LookCase
 everyList = eightHold 0 (replicate 9 0) (replicate 9 0) eightLists ∷ joinedAll (map ofList (numbersFrom 0 8)) ++ joinedAll (map lacking (numbersFrom 0 8)) ++ sums
 
+-- the number that a look gives
+abbrev pub numberSeen : LookCase → ℕ
+numberSeen e = lookOf trial 0 (e .state .links) (e .state .values) (e .state .book) .refusal .number
+
 -- does a look give each its number?
 abbrev pub looksPass : List LookCase → Bool
 looksPass [] = true
-looksPass (e ∷ es) = eqb (lookOf trial 0 (e .state .links) (e .state .values) (e .state .book) .refusal .number) (e .number) && looksPass es
+looksPass (e ∷ es) = eqb (numberSeen e) (e .number) && looksPass es

@@ -64,8 +64,10 @@ module _ (E : Engine) where
   abbrev pub SoundState : State E → Type 0
   SoundState st = (s : Shape) × SoundBook E (st .links) (st .values) (st .book) s
 
-  -- the pool is sound, and, apart from what that asks of a free slot: every slot from 1 to N-1 that stands in no list's sequence holds the wipe word
+  -- apart from what `Sound` asks of a free slot: every slot from 1 to N-1 that stands in no list's sequence holds the wipe word
+  abbrev pub UnlistedWiped : State E → Shape → Type 0
+  UnlistedWiped st s = (y : ℕ) → nullSlot < y → y < E .size (st .links) → count y (joinedUp (s .chains)) ≡ 0 → cell (st .values) y ≡ wipeWord
+
+  -- the pool is sound, and that is so
   abbrev pub FreeWiped : State E → Type 0
-  FreeWiped st =
-      (s : Shape) × SoundBook E (st .links) (st .values) (st .book) s
-      × ((y : ℕ) → nullSlot < y → y < E .size (st .links) → count y (joinedUp (s .chains)) ≡ 0 → cell (st .values) y ≡ wipeWord)
+  FreeWiped st = (s : Shape) × SoundBook E (st .links) (st .values) (st .book) s × UnlistedWiped st s

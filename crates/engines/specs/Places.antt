@@ -5,10 +5,10 @@ use Prim.Native.Nat.{ℕ}
 use lib.Dec.{eqb}
 use lib.ListN.{set, replicate}
 use Rattle.books.specs.declared.Entry.{Entry}
-use Rattle.books.specs.Tried.{entry, none}
+use Rattle.books.specs.Tried.{allBits, numbersFrom, entry, none}
 use Rattle.shapes.specs.declared.Fault.{Fault}
-use Rattle.shapes.specs.Faults.{fault}
-use Rattle.engines.specs.Check.{checkFound}
+use Rattle.shapes.specs.Faults.{fault, noFault, round}
+use Rattle.engines.specs.Check.{idleFound, checkFound}
 use Rattle.engines.specs.Calls.{setupCall}
 use Rattle.engines.specs.Moves.{State, left}
 use Rattle.engines.specs.Trial.{trial, twoWay, pool}
@@ -86,11 +86,21 @@ faultPools =
 abbrev manySlots : State trial
 manySlots = left (setupCall trial 8 (twoWay (replicate 260 9) (replicate 260 9)) (replicate 260 9) 1 (259 ∷ replicate 7 0) (259 ∷ replicate 7 0))
 
+-- the same slots as one list's, which is at its limit then
+abbrev pub longList : State trial
+longList =
+    record {
+      links = twoWay (manySlots .links .next) (0 ∷ numbersFrom 0 259);
+      values = 0 ∷ replicate 259 allBits;
+      book = record { places = 8; lists = 1; entries = entry 1 259 259 259 ∷ none 7; free = record { head = 0 } };
+    }
+
 -- they are sound; with one bit in the last slot, which is free, they are not
 abbrev pub manyPools : List FaultCase
 manyPools =
     record { first = fault 0 0 0; state = manySlots }
     ∷ record { first = fault 14 0 259; state = record { links = manySlots .links; values = set (manySlots .values) 259 9223372036854775808; book = manySlots .book } }
+    ∷ record { first = fault 0 0 0; state = longList }
     ∷ []
 
 -- does the check find each at its place?
@@ -99,3 +109,8 @@ faultsFound [] = true
 faultsFound (b ∷ bs) =
     let found = checkFound trial 0 (b .state .links) (b .state .values) (b .state .book) .fault in
     eqb (found .rule) (b .first .rule) && (eqb (found .list) (b .first .list) && (eqb (found .place) (b .first .place) && faultsFound bs))
+
+-- ---- the largest pool, once its walks are made: so many are live, the free slots are `slots`, and the last slot holds this value
+abbrev pub lastHolds : ℕ → ℕ → List ℕ → Fault
+lastHolds value live slots =
+    idleFound 4096 (set (replicate 4096 0) 4095 value) (record { head = 0 }) 1 (round (record { fault = noFault; live = live; lacks = 0; over = 1; length = 0 }) (replicate 4096 1)) (record { ok = true; slots = slots }) .fault
