@@ -1,9 +1,9 @@
 -- Which of 6, 7 and 0 a push gets on a list of a sound pool, which of 5 and 0 a pop, which of 8 and 0 a read; that length and clear are done, and that no call on a sound pool gets 1 or 3; on any engine.
 use mathlib.Core.Path.{_≡_, refl, ap, subst}
-use mathlib.Core.Logic.{_↔_, _≢_, _⊎_, inl, inr}
+use mathlib.Core.Logic.{_↔_, _≢_, _⊎_, inl, inr, ⊎-elim}
 use mathlib.Core.List.{List, [], _∷_, _++_}
 use Prim.Native.Nat.{ℕ, _+_, _≤_, _<_}
-use native.Mathlib.Decide.{ℕ-discrete, decLe}
+use native.Mathlib.Decide.{ℕ-discrete, decLe, decLt}
 use native.Mathlib.Omega.{arith}
 use lib.ListN.{length, take}
 use Rattle.books.specs.declared.Entry.{Entry}
@@ -16,7 +16,7 @@ use Rattle.shapes.proofs.Numbers.{given-only}
 use Rattle.engines.specs.Engine.{Engine}
 use Rattle.engines.specs.Sound.{Fit, SoundBook}
 use Rattle.engines.specs.Laws.{Lawful}
-use Rattle.engines.specs.Conditions.{OfShape, checkConditions, listConditions, pushConditions, popConditions, readConditions}
+use Rattle.engines.specs.Conditions.{OfShape, checkConditions, listConditions, pushConditions, popConditions, TooSmall, readConditions}
 use Rattle.engines.specs.Calls.{lengthCall, pushCall, popCall, clearCall, readCall}
 use Rattle.engines.proofs.Shape.{unique-book}
 use Rattle.engines.proofs.Found.{entry-is, within}
@@ -165,39 +165,39 @@ module _ {E : Engine} (L : Lawful E) {links : E .Links} {values : List ℕ} {b :
     abbrev readNumber : ℕ
     readNumber = readCall E links values b l end buffer at .answer .refusal .number
 
-    read-way : ((readNumber ≡ 8) × (length buffer < at + many)) ⊎ ((readNumber ≡ 0) × (at + many ≤ length buffer))
-    read-way = go (decLe (at + many) (length buffer))
+    -- 8's fact, of any shape
+    abbrev Small : Shape → Type 0
+    Small = TooSmall E links values b l (length buffer) at
+
+    read-way : ((readNumber ≡ 8) × Small s) ⊎ ((readNumber ≡ 0) × (Small s → ⊥))
+    read-way = go (decLt (length buffer) at) (decLt (length buffer) (at + many))
       where
         gives : {k : ℕ} → Given (readConditions E links values b l (length buffer) at) k → readNumber ≡ k
         gives g = given-only (read-given L links values b l end buffer at) g
 
-        -- 8's fact, of any shape
-        TooSmall : Shape → Type 0
-        TooSmall t = (length buffer < at) ⊎ (length buffer < at + length (chainAt t l))
+        small : Small s → ((readNumber ≡ 8) × Small s) ⊎ ((readNumber ≡ 0) × (Small s → ⊥))
+        small t = inl (gives (own-decides (N.this (s, S, t))), t)
 
-        fits : at + many ≤ length buffer → TooSmall s → ⊥
-        fits h (inl k) = omega arith
-        fits h (inr k) = omega arith
-
-        go : Dec (at + many ≤ length buffer) → ((readNumber ≡ 8) × (length buffer < at + many)) ⊎ ((readNumber ≡ 0) × (at + many ≤ length buffer))
-        go (yes h) = inr (gives (own-decides (N.later (λ o. fits h (of-this TooSmall o)) N.done)), h)
-        go (no h) = inl (gives (own-decides (N.this (s, S, inr (omega arith)))), omega arith)
+        go : Dec (length buffer < at) → Dec (length buffer < at + many) → ((readNumber ≡ 8) × Small s) ⊎ ((readNumber ≡ 0) × (Small s → ⊥))
+        go (yes p) q = small (inl p)
+        go (no p) (yes q) = small (inr q)
+        go (no p) (no q) = inr (gives (own-decides (N.later (λ o. ⊎-elim p q (of-this Small o)) N.done)), ⊎-elim p q)
 
     -- 01: 8 "`at` past the buffer's end, or fewer than length places from `at`"
-    pub read-eight : readNumber ≡ 8 ↔ (length buffer < at + many)
+    pub read-eight : readNumber ≡ 8 ↔ TooSmall E links values b l (length buffer) at s
     read-eight = go read-way
       where
-        go : ((readNumber ≡ 8) × (length buffer < at + many)) ⊎ ((readNumber ≡ 0) × (at + many ≤ length buffer)) → readNumber ≡ 8 ↔ (length buffer < at + many)
-        go (inl w) = omega arith
-        go (inr w) = omega arith
+        go : ((readNumber ≡ 8) × Small s) ⊎ ((readNumber ≡ 0) × (Small s → ⊥)) → readNumber ≡ 8 ↔ Small s
+        go (inl (n, t)) = (λ k. t, λ k. n)
+        go (inr (n, t)) = (λ k. absurd (omega arith), λ k. absurd (t k))
 
-    -- 0, where it has them
-    pub read-zero : readNumber ≡ 0 ↔ (at + many ≤ length buffer)
+    -- 0, where neither is so
+    pub read-zero : readNumber ≡ 0 ↔ (TooSmall E links values b l (length buffer) at s → ⊥)
     read-zero = go read-way
       where
-        go : ((readNumber ≡ 8) × (length buffer < at + many)) ⊎ ((readNumber ≡ 0) × (at + many ≤ length buffer)) → readNumber ≡ 0 ↔ (at + many ≤ length buffer)
-        go (inl w) = omega arith
-        go (inr w) = omega arith
+        go : ((readNumber ≡ 8) × Small s) ⊎ ((readNumber ≡ 0) × (Small s → ⊥)) → readNumber ≡ 0 ↔ (Small s → ⊥)
+        go (inl (n, t)) = (λ k. absurd (omega arith), λ k. absurd (k t))
+        go (inr (n, t)) = (λ k. t, λ k. n)
 
   -- ---- length and clear have no number of their own
 

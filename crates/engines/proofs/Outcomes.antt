@@ -182,21 +182,21 @@ module _ {E : Engine} (L : Lawful E) (links : E .Links) (values : List ℕ) (b :
   -- ---- the reads
 
   module _ (end : End) (buffer : List ℕ) (at : ℕ) where
-    pub read-done : readCall E links values b l end buffer at .answer .refusal .number ≡ 0 → (s : Shape) × SoundBook E links values b s × Reads end values l buffer at s (readCall E links values b l end buffer at)
+    -- the list's values have their places in the buffer, and are read there
+    whole-read : readCall E links values b l end buffer at .answer .refusal .number ≡ 0
+        → (s : Shape) × SoundBook E links values b s × (at + length (chainAt s l) ≤ length buffer) × Reads end values l buffer at s (readCall E links values b l end buffer at)
     unfolding readCall
-    read-done =
-        decided-ind _ _ (λ (r : ReadLeft). r .answer .refusal .number ≡ 0 → (s : Shape) × SoundBook E links values b s × Reads end values l buffer at s r) (readTests E links values b l (length buffer) at)
+    whole-read =
+        decided-ind _ _ (λ (r : ReadLeft). r .answer .refusal .number ≡ 0 → (s : Shape) × SoundBook E links values b s × (at + length (chainAt s l) ≤ length buffer) × Reads end values l buffer at s r)
+        (readTests E links values b l (length buffer) at)
         (λ k z. absurd (k z))
         (λ k z. let ((s, S, below), y) = past-list (readOwnTests (foundOf E links values b l .length) (length buffer) at) k in
         let (p, q) = placed (foundOf E links values b l .length) (length buffer) at y in
-        (s, S, reads L S l below end buffer at (omega (arith, found-length L S l below))))
+        let h : at + length (chainAt s l) ≤ length buffer = omega (arith, found-length L S l below) in
+        (s, S, h, reads L S l below end buffer at h))
 
-    -- its values have their places in the buffer
+    pub read-done : readCall E links values b l end buffer at .answer .refusal .number ≡ 0 → (s : Shape) × SoundBook E links values b s × Reads end values l buffer at s (readCall E links values b l end buffer at)
+    read-done z = let (s, S, h, R) = whole-read z in (s, S, R)
+
     pub read-room : readCall E links values b l end buffer at .answer .refusal .number ≡ 0 → at + readCall E links values b l end buffer at .answer .count ≤ length buffer
-    unfolding readCall
-    read-room =
-        decided-ind _ _ (λ (r : ReadLeft). r .answer .refusal .number ≡ 0 → at + r .answer .count ≤ length buffer) (readTests E links values b l (length buffer) at)
-        (λ k z. absurd (k z))
-        (λ k z. let ((s, S, below), y) = past-list (readOwnTests (foundOf E links values b l .length) (length buffer) at) k in
-        let (p, q) = placed (foundOf E links values b l .length) (length buffer) at y in
-        omega (arith, found-length L S l below, reads L S l below end buffer at (omega (arith, found-length L S l below)) .counted))
+    read-room z = let (s, S, h, R) = whole-read z in omega (arith, R .counted)

@@ -43,5 +43,8 @@ module _ (E : Engine) (links : E .Links) (values : List ℕ) (b : AnyBook) where
     popConditions = listConditions ++ condition 5 (OfShape (λ s. chainAt s l ≡ [])) ∷ []
 
     -- 8: "`at` past the buffer's end, or fewer than length places from `at`", of a buffer with `bufferSize` places
+    abbrev pub TooSmall : ℕ → ℕ → Shape → Type 0
+    TooSmall bufferSize at s = (bufferSize < at) ⊎ (bufferSize < at + length (chainAt s l))
+
     abbrev pub readConditions : ℕ → ℕ → List Condition
-    readConditions bufferSize at = listConditions ++ condition 8 (OfShape (λ s. (bufferSize < at) ⊎ (bufferSize < at + length (chainAt s l)))) ∷ []
+    readConditions bufferSize at = listConditions ++ condition 8 (OfShape (TooSmall bufferSize at)) ∷ []

@@ -1,5 +1,6 @@
 -- Demand 3, the wiped slots, the reads and a clear that leaves nothing, at any point of a trace of the C functions: such a trace is one of the ten calls by name, and no premise on the number of words is left.
 use mathlib.Core.Path.{_≡_, refl, sym, ap, subst, _∙_}
+use mathlib.Core.Logic.{inr, ⊎-elim}
 use mathlib.Core.Bool.{cond}
 use mathlib.Core.List.{List, _++_}
 use Prim.Native.Nat.{ℕ, _+_, _≤_, _<_}
@@ -167,13 +168,13 @@ module _ (m : Memory) {s : Shape} (S : SoundBook xor (m .links) (m .values) (eig
     -- a read that fits, and one that does not
     fitting : at + length vs ≤ length buffer → asShown reading ≡ shown 0 (length vs) (take at buffer ++ fromEnd end vs ++ drop (at + length vs) buffer)
     fitting h =
-        let z = read-zero xor-lawful S l below end buffer at .1 (omega (arith, as-many)) in
+        let z = read-zero xor-lawful S l below end buffer at .1 (⊎-elim (λ k. omega arith) (λ k. omega (arith, as-many))) in
         let (n, e) = read-is xor-lawful H end buffer at z in
         λ i. record { number = z i; count = n i; buffer = e i }
 
     lacking : length buffer < at + length vs → asShown reading ≡ shown 8 0 buffer
     lacking h =
-        let z = read-eight xor-lawful S l below end buffer at .1 (omega (arith, as-many)) in
+        let z = read-eight xor-lawful S l below end buffer at .1 (inr (omega (arith, as-many))) in
         let R = read-refused xor (m .links) (m .values) (eight (bookFrom (m .words))) l end buffer at (λ e. omega arith) in
         λ i. record { number = z i; count = R .noCount i; buffer = R .sameBuffer i }
 
