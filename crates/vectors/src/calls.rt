@@ -1,85 +1,123 @@
-// The ten calls, each by its code.
+// The ten calls. Each writes the number that it gives and what it returns.
+use crate::out;
 use books::Answer;
 use books::Book;
+use books::Length;
 use books::Popped;
+use books::Read;
 use books::Refusal;
-use books::Value;
 
-pub(crate) fn wide(x: u16) -> u64 {
-    x as u64
+// A step is one of these, with the list and the value or the place added: `PUSH_BACK + LIST_1 + 60`. They are the rows of 01's table.
+pub(crate) const SETUP: u64 = 0;
+
+pub(crate) const CHECK: u64 = 100000;
+
+pub(crate) const LENGTH: u64 = 200000;
+
+pub(crate) const PUSH_BACK: u64 = 300000;
+
+pub(crate) const PUSH_FRONT: u64 = 400000;
+
+pub(crate) const POP_BACK: u64 = 500000;
+
+pub(crate) const POP_FRONT: u64 = 600000;
+
+pub(crate) const READ_FORWARD: u64 = 700000;
+
+pub(crate) const READ_BACKWARD: u64 = 800000;
+
+pub(crate) const CLEAR: u64 = 900000;
+
+pub(crate) const LIST_1: u64 = 10000;
+
+// The call of a step.
+fn call_of(step: u64) -> u64 {
+    step / 100000 * 100000
 }
 
-// A number as 16 bits, or 0 where it does not fit.
-fn narrow(x: u64) -> u16 {
-    if x < 65536 {
-        return x as u16;
-    }
-    0
+// The list of a step.
+pub(crate) fn list_of(step: u64) -> u16 {
+    (step / 10000 % 10) as u16
 }
 
-// The number, and the value popped, the length or the count read, or else 0.
-fn given(refusal: Refusal, value: u64) -> Value {
-    Value { refusal, value }
+// The value or the place of a step.
+pub(crate) fn value_of(step: u64) -> u64 {
+    step % 10000
 }
 
-// The same with the book.
-fn answer_of(made: Answer) -> Popped {
-    let refusal = made.refusal;
-    let book = made.book;
-    Popped {
-        given: given(refusal, 0),
-        book,
-    }
+// Two digits as the shares or the limits of the first two lists, and none for the others.
+fn eight(two: u64) -> [u16; 8] {
+    [(two / 10 % 10) as u16, (two % 10) as u16, 0, 0, 0, 0, 0, 0]
 }
 
-// Two shares or limits, and none for the other lists.
-fn eight(one: u64, two: u64) -> [u16; 8] {
-    [narrow(one), narrow(two), 0, 0, 0, 0, 0, 0]
+// What a setup, a push or a clear gives; it returns the book alone.
+fn changed(answer: Answer) -> Book {
+    let refusal = answer.refusal;
+    out::given(refusal.number, 0);
+    answer.book
 }
 
-fn setup(links: &mut [u16], values: &mut [u64], lists: u16, four: u64) -> Popped {
-    let shares = eight(four / 1000, four / 100 % 10);
-    let limits = eight(four / 10 % 10, four % 10);
-    answer_of(shares::setup::setup(links, values, lists, shares, limits))
+// What a pop gives.
+fn popped(answer: Popped) -> Book {
+    let given = answer.given;
+    let refusal = given.refusal;
+    out::given(refusal.number, given.value);
+    answer.book
 }
 
-// The calls that change the pool.
-pub(crate) fn change(links: &mut [u16], values: &mut [u64], book: Book, code: u64) -> Popped {
-    let list = narrow(code / 10000 % 10);
-    let value = code % 10000;
-    match code / 100000 {
-        0 => return setup(links, values, list, value),
-        3 => return answer_of(shares::ends::push_back(links, values, book, list, value)),
-        4 => return answer_of(shares::ends::push_front(links, values, book, list, value)),
-        5 => return shares::ends::pop_back(links, values, book, list),
-        6 => return shares::ends::pop_front(links, values, book, list),
-        _ => return answer_of(shares::clear::clear(links, values, book, list)),
-    }
-}
-
-// The others. They return no book: it is as it was.
-pub(crate) fn look(
-    links: &[u16],
-    values: &[u64],
-    buffer: &mut [u64],
-    book: Book,
-    code: u64,
-) -> Value {
-    let list = narrow(code / 10000 % 10);
-    let at = (code % 10000) as usize;
-    match code / 100000 {
-        1 => return given(shares::check::check(links, values, book), 0),
-        2 => {
-            let found = shares::reads::length(links, values, book, list);
-            return given(found.refusal, wide(found.length));
+// One call that may change the pool and the book.
+pub(crate) fn change(links: &mut [u16], values: &mut [u64], book: Book, step: u64) -> Book {
+    let list = list_of(step);
+    let value = value_of(step);
+    out::call(step);
+    match call_of(step) {
+        SETUP => {
+            let shares = eight(value / 100);
+            return changed(shares::setup::setup(links, values, list, shares, eight(value)));
         }
-        7 => {
-            let read = shares::reads::read_forward(links, values, book, list, buffer, at);
-            return given(read.refusal, wide(read.count));
-        }
-        _ => {
-            let read = shares::reads::read_backward(links, values, book, list, buffer, at);
-            return given(read.refusal, wide(read.count));
-        }
+        PUSH_BACK => return changed(shares::ends::push_back(links, values, book, list, value)),
+        PUSH_FRONT => return changed(shares::ends::push_front(links, values, book, list, value)),
+        POP_BACK => return popped(shares::ends::pop_back(links, values, book, list)),
+        POP_FRONT => return popped(shares::ends::pop_front(links, values, book, list)),
+        _ => return changed(shares::clear::clear(links, values, book, list)),
     }
+}
+
+// What a check gives.
+fn checked(refusal: Refusal) {
+    out::given(refusal.number, 0);
+}
+
+// What a read gives.
+fn counted(read: Read) {
+    let refusal = read.refusal;
+    out::given(refusal.number, out::wide(read.count));
+}
+
+// What length gives.
+fn measured(found: Length) {
+    let refusal = found.refusal;
+    out::given(refusal.number, out::wide(found.length));
+}
+
+// One call that may change the buffer alone, of eight places that hold 7.
+pub(crate) fn look(links: &[u16], values: &[u64], book: Book, step: u64) {
+    let list = list_of(step);
+    let at = value_of(step) as usize;
+    let mut buffer = [7u64; 8];
+    out::call(step);
+    match call_of(step) {
+        CHECK => checked(shares::check::check(links, values, book)),
+        LENGTH => measured(shares::reads::length(links, values, book, list)),
+        READ_FORWARD => counted(shares::reads::read_forward(
+            links,
+            values,
+            book,
+            list,
+            &mut buffer,
+            at,
+        )),
+        _ => counted(shares::reads::read_backward(links, values, book, list, &mut buffer, at)),
+    }
+    out::buffer(&buffer);
 }

@@ -7,6 +7,43 @@ use books::Book;
 use books::Entry;
 use books::Free;
 
+// The titles of the pools, with blanks up to sixteen letters.
+const P8: [u8; 16] = *b"P8              ";
+
+const P9: [u8; 16] = *b"P9              ";
+
+const P1: [u8; 16] = *b"P1              ";
+
+const P2: [u8; 16] = *b"P2              ";
+
+const P3: [u8; 16] = *b"P3              ";
+
+const P4: [u8; 16] = *b"P4              ";
+
+const P5: [u8; 16] = *b"P5              ";
+
+const P6: [u8; 16] = *b"P6              ";
+
+const P7: [u8; 16] = *b"P7              ";
+
+const P7_THEN_A_CLEAR: [u8; 16] = *b"P7, then a clear";
+
+const P10: [u8; 16] = *b"P10             ";
+
+const ONE_SLOT: [u8; 16] = *b"1 slot          ";
+
+const TWO_SLOTS: [u8; 16] = *b"2 slots         ";
+
+const MOST_SLOTS: [u8; 16] = *b"4,096 slots     ";
+
+const TOO_MANY_SLOTS: [u8; 16] = *b"4,097 slots     ";
+
+const SHARES_2_AND_3: [u8; 16] = *b"shares 2 and 3  ";
+
+const SHARES_3_AND_3: [u8; 16] = *b"shares 3 and 3  ";
+
+const LIMIT_0: [u8; 16] = *b"limit 0         ";
+
 // A book of one list with share 0.
 fn one_list(head: u16, tail: u16, limit: u16, free: u16) -> Book {
     let none = Entry::zero();
@@ -24,26 +61,29 @@ fn one_list(head: u16, tail: u16, limit: u16, free: u16) -> Book {
     }
 }
 
-// 01 gives the values of the slots 0, 2 and 5. The list's are 10, 20 and 30.
-fn p8() {
+// 01 gives the values of P8's slots 0, 2 and 5. The list's are 10, 20 and 30.
+fn p8_and_p9() {
     let mut links = [0u16, 7, 5, 1, 1, 0];
     let mut values = [0u64, 20, 0, 10, 30, 0];
-    out::say(b"P8");
+    out::title(P8);
     steps::run(&mut links, &mut values, one_list(3, 4, 5, 2), 0, 0);
+    links = [0u16, 2, 0, 0, 0, 0];
+    values = [0u64; 6];
+    out::title(P9);
+    steps::run(
+        &mut links[0..4],
+        &mut values[0..4],
+        one_list(1, 1, 3, 0),
+        11,
+        16,
+    );
 }
 
-fn p9() {
-    let mut links = [0u16, 2, 0, 0];
-    let mut values = [0u64; 4];
-    out::say(b"P9");
-    steps::run(&mut links, &mut values, one_list(1, 1, 3, 0), 11, 16);
-}
-
-// A pool of so many slots, of which every cell is 9 before.
-fn nines(text: &[u8], size: usize, from: usize, to: usize) {
+// A pool of so many slots, of which every cell is 9 before, and the steps from `from` up to `to` on it.
+fn nines(title: [u8; 16], size: usize, from: usize, to: usize) {
     let mut links = [9u16; 4097];
     let mut values = [9u64; 4097];
-    out::say(text);
+    out::title(title);
     if size <= 4097 {
         steps::run(
             &mut links[0..size],
@@ -55,39 +95,30 @@ fn nines(text: &[u8], size: usize, from: usize, to: usize) {
     }
 }
 
-// P2 to P7 go on from the pool before, so each begins at P1. No pool of 01's has a clear: what it gives was worked out from its words.
-fn p1_to_p7() {
-    nines(b"P1", 6, 0, 1);
-    nines(b"P2", 6, 0, 4);
-    nines(b"P3", 6, 0, 5);
-    nines(b"P4", 6, 0, 6);
-    nines(b"P5", 6, 0, 8);
-    nines(b"P6", 6, 0, 9);
-    nines(b"P7", 6, 0, 10);
-    nines(b"P7, then a clear", 6, 0, 11);
-}
-
-// Setup of one list with share and limit 1, at the sizes about the smallest and the largest; and shares about the largest sum.
-fn edges() {
-    nines(b"1 slot", 1, 18, 19);
-    nines(b"2 slots", 2, 18, 19);
-    nines(b"4,096 slots", 4096, 18, 19);
-    nines(b"4,097 slots", 4097, 18, 19);
-    nines(b"shares 2 and 3", 6, 19, 20);
-    nines(b"shares 3 and 3", 6, 20, 21);
+fn intro() {
+    out::say(
+        b"A call has its list and its value or place behind it; a setup its lists, and its shares and limits.\nA book is how many lists it has and the free head, then head, tail, share and limit of each.\n\n",
+    );
 }
 
 fn main() {
-    out::say(
-        b"A call has its list and its value or place behind it; a setup its lists, and its shares and limits.\n",
-    );
-    out::say(
-        b"A book is how many lists it has and the free head, then head, tail, share and limit of each.\n\n",
-    );
-    p1_to_p7();
-    p8();
-    p9();
-    nines(b"P10", 6, 16, 18);
-    edges();
-    nines(b"limit 0", 6, 21, 24);
+    intro();
+    // P2 to P7 go on from the pool before, so each begins at P1.
+    nines(P1, 6, 0, 1);
+    nines(P2, 6, 0, 4);
+    nines(P3, 6, 0, 5);
+    nines(P4, 6, 0, 6);
+    nines(P5, 6, 0, 8);
+    nines(P6, 6, 0, 9);
+    nines(P7, 6, 0, 10);
+    nines(P7_THEN_A_CLEAR, 6, 0, 11);
+    p8_and_p9();
+    nines(P10, 6, 16, 18);
+    nines(ONE_SLOT, 1, 18, 19);
+    nines(TWO_SLOTS, 2, 18, 19);
+    nines(MOST_SLOTS, 4096, 18, 19);
+    nines(TOO_MANY_SLOTS, 4097, 18, 19);
+    nines(SHARES_2_AND_3, 6, 19, 20);
+    nines(SHARES_3_AND_3, 6, 20, 21);
+    nines(LIMIT_0, 6, 21, 24);
 }

@@ -1,50 +1,98 @@
 // What is written: texts, numbers, cells.
-use crate::calls::wide;
+use crate::calls::list_of;
+use crate::calls::value_of;
 use books::Book;
-use books::Entry;
 use libc::STDOUT_FILENO;
+
+const NAMES: [u8; 130] =
+    *b"setup        check        length       push back    push front   pop back     pop front    read forward read backwardclear        ";
+
+pub(crate) const LINKS: [u8; 8] = *b"\n  links";
+
+pub(crate) const VALUES: [u8; 8] = *b", values";
+
+const BUFFER: [u8; 8] = *b", buffer";
+
+const NUMBER: [u8; 8] = *b": number";
+
+const RETURNS: [u8; 8] = *b" returns";
+
+pub(crate) fn wide(x: u16) -> u64 {
+    x as u64
+}
 
 pub(crate) fn say(text: &[u8]) {
     io::write_all(STDOUT_FILENO, text);
 }
 
-// A text and then a number.
-pub(crate) fn word(text: &[u8], n: u64) {
-    let mut room = [0u8; 20];
-    let count = digits::write(&mut room, 0, n);
-    say(text);
-    if count <= 20 {
-        say(&room[0..count]);
-    }
-}
-
-// The thirteen letters of name number `kind`, on a line of their own.
-pub(crate) fn part(text: &[u8], kind: u64) {
-    let from = (kind % 16 * 13) as usize;
-    say(b"\n");
-    if 13 <= text.len() {
-        if from <= text.len() - 13 {
-            say(&text[from..from + 13]);
+// A title without the blanks behind it.
+pub(crate) fn title(title: [u8; 16]) {
+    let mut k: usize = 16;
+    while 0 < k {
+        if title[k - 1] != b' ' {
+            break;
         }
+        k -= 1;
     }
+    say(&title[0..k]);
 }
 
-fn entry(entry: Entry) {
-    word(b", ", wide(entry.head));
-    word(b" ", wide(entry.tail));
-    word(b" ", wide(entry.share));
-    word(b" ", wide(entry.limit));
+// A text of eight letters.
+pub(crate) fn text(text: [u8; 8]) {
+    say(&text);
+}
+
+fn letter(letter: u8) {
+    say(&[letter]);
+}
+
+// A blank line behind a pool.
+pub(crate) fn end() {
+    say(b"\n\n");
+}
+
+// A blank and a number.
+fn number(n: u64) {
+    letter(b' ');
+    io::print_decimal(STDOUT_FILENO, n);
+}
+
+// The name of a call, of thirteen letters with the blanks.
+fn name(row: u64) {
+    let from = (row % 10 * 13) as usize;
+    let names = NAMES;
+    say(&names[from..from + 13]);
+}
+
+// A call with its list and its value or place, on a line of its own.
+pub(crate) fn call(step: u64) {
+    letter(b'\n');
+    name(step / 100000);
+    number(wide(list_of(step)));
+    number(value_of(step));
+}
+
+// What it gives.
+pub(crate) fn given(refusal: u16, value: u64) {
+    text(NUMBER);
+    number(wide(refusal));
+    letter(b',');
+    text(RETURNS);
+    number(value);
 }
 
 // How many lists there are, the free head, then head, tail, share and limit of each entry.
 pub(crate) fn book(book: Book) {
-    let entries = book.entries;
-    let free = book.free;
-    let mut k: usize = 0;
-    word(b", book ", wide(book.lists));
-    word(b" ", wide(free.head));
-    while k < 8 {
-        entry(entries[k]);
+    let words = pools::words::words_of(book);
+    let mut k: usize = 1;
+    say(b", book");
+    number(wide(words[0]));
+    number(wide(words[33]));
+    while k < 33 {
+        if k % 4 == 1 {
+            letter(b',');
+        }
+        number(wide(words[k]));
         k += 1;
     }
 }
@@ -63,29 +111,33 @@ fn left_out(cells: &[u64], k: usize) -> bool {
     false
 }
 
-// What stands before a cell: nothing, a comma, or dots where cells are left out.
-fn gap(cells: &[u64], k: usize) {
+// What stands before cell `k`, where `next` is the cell behind the last one shown: a blank, a comma, or dots where cells are left out.
+fn gap(next: usize, k: usize) {
     if k == 0 {
-        return;
-    }
-    if left_out(cells, k - 1) {
-        say(b" .. ");
+        letter(b' ');
+    } else if next == k {
+        letter(b',');
     } else {
-        say(b",");
+        say(b" .. ");
     }
 }
 
-// A text, and then the cells.
-pub(crate) fn cells(text: &[u8], cells: &[u64]) {
+pub(crate) fn cells(cells: &[u64]) {
+    let mut next: usize = 0;
     let mut k: usize = 0;
-    say(text);
     while k < cells.len() {
         if !left_out(cells, k) {
-            gap(cells, k);
-            word(b"", cells[k]);
+            gap(next, k);
+            io::print_decimal(STDOUT_FILENO, cells[k]);
+            next = k + 1;
         }
         k += 1;
     }
+}
+
+pub(crate) fn buffer(buffer: &[u64; 8]) {
+    text(BUFFER);
+    cells(buffer);
 }
 
 fn widened(links: &[u16]) -> [u64; 4097] {
@@ -104,6 +156,6 @@ pub(crate) fn links(links: &[u16]) {
     let wider = widened(links);
     let size = links.len();
     if size <= 4097 {
-        cells(b"\n  links ", &wider[0..size]);
+        cells(&wider[0..size]);
     }
 }

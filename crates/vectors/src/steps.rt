@@ -1,110 +1,110 @@
 // The calls of the pools to try, in order, each shown with what it gives and leaves.
 use crate::calls;
+use crate::calls::CHECK;
+use crate::calls::CLEAR;
+use crate::calls::LENGTH;
+use crate::calls::LIST_1;
+use crate::calls::POP_BACK;
+use crate::calls::POP_FRONT;
+use crate::calls::PUSH_BACK;
+use crate::calls::PUSH_FRONT;
+use crate::calls::READ_BACKWARD;
+use crate::calls::READ_FORWARD;
+use crate::calls::SETUP;
 use crate::out;
 use books::Book;
-use books::Value;
 
-// Six digits for a call: its kind, a row of 01's table; the list, or of a setup how many lists; and four digits for the value or the
-// place, or for the shares and the limits of the first two lists.
-const STEPS: [u64; 35] = [
-    22153,
-    300020,
-    300030,
-    400010,
-    300040,
-    300050,
-    310060,
-    310061,
-    600000,
-    310061,
-    900000,
-    300005,
-    400005,
-    500000,
-    600000,
-    900000,
-    22153,
-    510000,
-    11010,
-    22353,
-    23353,
-    10000,
-    300005,
-    400005,
-    100000,
-    200000,
-    700001,
-    800001,
-    210000,
-    710001,
-    810001,
-    700008,
-    800008,
-    700009,
-    800009,
+// A setup has its lists for the list, and four digits for the shares and the limits of the first two.
+const STEPS: [u64; 24] = [
+    // P1
+    SETUP + 22153,
+    // P2
+    PUSH_BACK + 20,
+    PUSH_BACK + 30,
+    PUSH_FRONT + 10,
+    // P3
+    PUSH_BACK + 40,
+    // P4
+    PUSH_BACK + 50,
+    // P5
+    PUSH_BACK + LIST_1 + 60,
+    PUSH_BACK + LIST_1 + 61,
+    // P6
+    POP_FRONT,
+    // P7
+    PUSH_BACK + LIST_1 + 61,
+    // No pool of 01's has a clear: what it gives was worked out from its words.
+    CLEAR,
+    // P9
+    PUSH_BACK + 5,
+    PUSH_FRONT + 5,
+    POP_BACK,
+    POP_FRONT,
+    CLEAR,
+    // P10
+    SETUP + 22153,
+    POP_BACK + LIST_1,
+    // One list with share and limit 1, at the sizes about the smallest and the largest.
+    SETUP + 11010,
+    // Shares about the largest sum.
+    SETUP + 22353,
+    SETUP + 23353,
+    // Limit 0.
+    SETUP + 10000,
+    PUSH_BACK + 5,
+    PUSH_FRONT + 5,
 ];
 
-// The call, by its name of thirteen letters with the blanks, and what it answers.
-fn told(code: u64, given: Value) {
-    let refusal = given.refusal;
-    out::part(
-        b"setup        check        length       push back    push front   pop back     pop front    read forward read backwardclear        ",
-        code / 100000,
-    );
-    out::word(b" ", code / 10000 % 10);
-    out::word(b" ", code % 10000);
-    out::word(b": number ", calls::wide(refusal.number));
-    out::word(b", returns ", given.value);
-}
+// What is asked of every pool at its end: check, the length and both readings of the first two lists, and both readings of list 0 at the
+// buffer's length and one place further.
+const LOOKS: [u64; 11] = [
+    CHECK,
+    LENGTH,
+    READ_FORWARD + 1,
+    READ_BACKWARD + 1,
+    LENGTH + LIST_1,
+    READ_FORWARD + LIST_1 + 1,
+    READ_BACKWARD + LIST_1 + 1,
+    READ_FORWARD + 8,
+    READ_BACKWARD + 8,
+    READ_FORWARD + 9,
+    READ_BACKWARD + 9,
+];
 
-// What stands in the pool and in the book.
-fn show(links: &[u16], values: &[u64], book: Book) {
-    out::links(links);
-    out::cells(b", values ", values);
-    out::book(book);
-}
-
-// One call, with every cell that it may change.
-fn step(links: &mut [u16], values: &mut [u64], book: Book, code: u64) -> Book {
-    let answer = calls::change(links, values, book, code);
-    let after = answer.book;
-    told(code, answer.given);
-    show(links, values, after);
-    after
-}
-
-// One call that changes the buffer alone, of eight places that hold 7.
-fn look(links: &[u16], values: &[u64], book: Book, code: u64) {
-    let mut buffer = [7u64; 8];
-    told(code, calls::look(links, values, &mut buffer, book, code));
-    out::cells(b", buffer ", &buffer);
-}
-
-fn code(k: usize) -> u64 {
-    if k < 35 {
+fn step(k: usize) -> u64 {
+    if k < 24 {
         return STEPS[k];
     }
     0
 }
 
-// Check, the length and both readings of the first two lists, and both readings of list 0 at the buffer's length and one place further.
-fn account(links: &[u16], values: &[u64], book: Book) {
-    let mut k: usize = 24;
-    while k < 35 {
-        look(links, values, book, code(k));
-        k += 1;
-    }
+// What stands in the pool and in the book.
+fn show(links: &[u16], values: &[u64], book: Book) {
+    out::text(out::LINKS);
+    out::links(links);
+    out::text(out::VALUES);
+    out::cells(values);
+    out::book(book);
 }
 
-// The steps from `from` up to `to` on a pool, and then its account.
+fn account(links: &[u16], values: &[u64], book: Book) {
+    let mut k: usize = 0;
+    show(links, values, book);
+    while k < 11 {
+        calls::look(links, values, book, LOOKS[k]);
+        k += 1;
+    }
+    out::end();
+}
+
+// The steps from `from` up to `to` on a pool, each behind what stands there before it, and then its account.
 pub(crate) fn run(links: &mut [u16], values: &mut [u64], begun: Book, from: usize, to: usize) {
     let mut book = begun;
     let mut k = from;
-    show(links, values, book);
     while k < to {
-        book = step(links, values, book, code(k));
+        show(links, values, book);
+        book = calls::change(links, values, book, step(k));
         k += 1;
     }
     account(links, values, book);
-    out::say(b"\n\n");
 }

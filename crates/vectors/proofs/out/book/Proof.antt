@@ -1,14 +1,14 @@
--- `vectors::out::book` ends: the measure is what `k` has left to 8.
+-- `vectors::out::book` ends: the measure is what `k` has left to 33.
 use Prim.Native.Nat.{_-_}
 use borrow.Author.Needs.{needs}
 use Rattle.vectors.proofs.out.book.Statement.{statement}
 use Rattle.vectors.proofs.out.book.Tie as tie
 
 abbrev Inv-loop : tie.InvT-loop
-Inv-loop entries k₀ k = Unit {0}
+Inv-loop words k₀ k = Unit {0}
 
 abbrev μ-loop : tie.MeasureT-loop
-μ-loop entries k₀ k = 8 - k
+μ-loop words k₀ k = 33 - k
 
 pub book-spec : {M : Type 1} → statement M
-book-spec = tie.close (tie.spec Inv-loop μ-loop (λ c. search needs) (λ c. search needs) (λ c. search needs) (λ c. search needs) (λ c. search needs) (λ c. search needs) (λ c. search needs) (λ c. search needs) (λ c. search needs) (λ c. search needs) (λ c. search needs) (λ c. search needs) (λ c. search needs) (λ c. search needs))
+book-spec = tie.close (tie.spec Inv-loop μ-loop (λ c. search needs) (λ c. search needs) (λ c. search needs) (λ c. search needs) (λ c. search needs) (λ c. search needs) (λ c. search needs) (λ c. search needs) (λ c. search needs) (λ c. search needs) (λ c. search needs) (λ c. search needs) (λ c. search needs) (λ c. search needs) (λ c. search needs) (λ c. search needs) (λ c. search needs) (λ c. search needs) (λ c. search needs))

@@ -7,10 +7,10 @@ use Rattle.vectors.proofs.steps.run.Statement.{statement}
 use Rattle.vectors.proofs.steps.run.Tie as tie
 
 abbrev Inv-loop : tie.InvT-loop
-Inv-loop links₀ values₀ from to book₀ k₀ t8 links values book k = (length links ≡ length links₀) × (length values ≡ length values₀)
+Inv-loop links₀ values₀ from to book₀ k₀ links values book k = (length links ≡ length links₀) × (length values ≡ length values₀)
 
 abbrev μ-loop : tie.MeasureT-loop
-μ-loop links₀ values₀ from to book₀ k₀ t8 links values book k = to - k
+μ-loop links₀ values₀ from to book₀ k₀ links values book k = to - k
 
 pub run-spec : {M : Type 1} → statement M
-run-spec = tie.close (tie.spec Inv-loop μ-loop (λ c. search needs) (λ c. search needs) (λ c. search needs) (λ c. search needs) (λ c. search needs) (λ c. search needs) (λ c. search needs) (λ c. search needs) (λ c. search needs) (λ c. search needs) (λ c. search needs) (λ c. search needs) (λ c. search needs))
+run-spec = tie.close (tie.spec Inv-loop μ-loop (λ c. search needs) (λ c. search needs) (λ c. search needs) (λ c. search needs) (λ c. search needs) (λ c. search needs) (λ c. search needs) (λ c. search needs) (λ c. search needs) (λ c. search needs) (λ c. search needs))
