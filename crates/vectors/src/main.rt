@@ -8,10 +8,6 @@ use books::Entry;
 use books::Free;
 
 // The titles of the pools, with blanks up to sixteen letters.
-const P8: [u8; 16] = *b"P8              ";
-
-const P9: [u8; 16] = *b"P9              ";
-
 const P1: [u8; 16] = *b"P1              ";
 
 const P2: [u8; 16] = *b"P2              ";
@@ -27,6 +23,10 @@ const P6: [u8; 16] = *b"P6              ";
 const P7: [u8; 16] = *b"P7              ";
 
 const P7_THEN_A_CLEAR: [u8; 16] = *b"P7, then a clear";
+
+const P8: [u8; 16] = *b"P8              ";
+
+const P9: [u8; 16] = *b"P9              ";
 
 const P10: [u8; 16] = *b"P10             ";
 
@@ -79,7 +79,7 @@ fn p8_and_p9() {
     );
 }
 
-// A pool of so many slots, of which every cell is 9 before, and the steps from `from` up to `to` on it.
+// A pool of so many slots, of which every cell is 9 before, and on it the steps of `STEPS` from `from` up to `to`.
 fn nines(title: [u8; 16], size: usize, from: usize, to: usize) {
     let mut links = [9u16; 4097];
     let mut values = [9u64; 4097];
@@ -103,7 +103,7 @@ fn intro() {
 
 fn main() {
     intro();
-    // P2 to P7 go on from the pool before, so each begins at P1.
+    // P2 to P7 go on from the pool before, so each begins at the first step.
     nines(P1, 6, 0, 1);
     nines(P2, 6, 0, 4);
     nines(P3, 6, 0, 5);

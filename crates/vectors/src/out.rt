@@ -4,9 +4,11 @@ use crate::calls::value_of;
 use books::Book;
 use libc::STDOUT_FILENO;
 
+// The calls by the rows of 01's table, each of thirteen letters with the blanks.
 const NAMES: [u8; 130] =
     *b"setup        check        length       push back    push front   pop back     pop front    read forward read backwardclear        ";
 
+// Texts of eight letters. A text in a constant is cheaper to prove than one in a call.
 pub(crate) const LINKS: [u8; 8] = *b"\n  links";
 
 pub(crate) const VALUES: [u8; 8] = *b", values";
@@ -37,7 +39,6 @@ pub(crate) fn title(title: [u8; 16]) {
     say(&title[0..k]);
 }
 
-// A text of eight letters.
 pub(crate) fn text(text: [u8; 8]) {
     say(&text);
 }
@@ -57,7 +58,7 @@ fn number(n: u64) {
     io::print_decimal(STDOUT_FILENO, n);
 }
 
-// The name of a call, of thirteen letters with the blanks.
+// The name of the call in a row of 01's table.
 fn name(row: u64) {
     let from = (row % 10 * 13) as usize;
     let names = NAMES;
