@@ -3,6 +3,7 @@ use crate::calls::list_of;
 use crate::calls::value_of;
 use books::Book;
 use libc::STDOUT_FILENO;
+ghost use Prim.Native.Nat.{_<_};
 
 // The calls by the rows of 01's table, each of thirteen letters with the blanks.
 const NAMES: [u8; 130] =
@@ -98,39 +99,48 @@ pub(crate) fn book(book: Book) {
     }
 }
 
-// Is a cell left out? In a long row those are that lie midway between their neighbours: they go on as these do.
-fn left_out(cells: &[u64], k: usize) -> bool {
-    if 40 < cells.len() {
-        if 2 < k {
-            if k < cells.len() - 3 {
-                let here = cells[k];
-                let before = std::num::wrapping_sub_u64(here, cells[k - 1]);
-                return before == std::num::wrapping_sub_u64(cells[k + 1], here);
-            }
-        }
+// Is cell `k` shown? Of a row of more than forty the first three and the last three are.
+fn is_shown(size: usize, k: usize) -> bool
+    requires { ⌜ k < size ⌝ }
+{
+    if size <= 40 {
+        return true;
     }
-    false
+    if k < 3 {
+        return true;
+    }
+    size - k <= 3
 }
 
-// What stands before cell `k`, where `next` is the cell behind the last one shown: a blank, a comma, or dots where cells are left out.
-fn gap(next: usize, k: usize) {
+// A cell, behind a blank, a comma, or dots where cells are left out.
+fn cell(size: usize, k: usize, cell: u64)
+    requires { ⌜ k < size ⌝ }
+{
     if k == 0 {
         letter(b' ');
-    } else if next == k {
-        letter(b',');
-    } else {
+    } else if 40 < size && size - k == 3 {
         say(b" .. ");
+    } else {
+        letter(b',');
     }
+    io::print_decimal(STDOUT_FILENO, cell);
 }
 
 pub(crate) fn cells(cells: &[u64]) {
-    let mut next: usize = 0;
     let mut k: usize = 0;
     while k < cells.len() {
-        if !left_out(cells, k) {
-            gap(next, k);
-            io::print_decimal(STDOUT_FILENO, cells[k]);
-            next = k + 1;
+        if is_shown(cells.len(), k) {
+            cell(cells.len(), k, cells[k]);
+        }
+        k += 1;
+    }
+}
+
+pub(crate) fn links(links: &[u16]) {
+    let mut k: usize = 0;
+    while k < links.len() {
+        if is_shown(links.len(), k) {
+            cell(links.len(), k, wide(links[k]));
         }
         k += 1;
     }
@@ -139,24 +149,4 @@ pub(crate) fn cells(cells: &[u64]) {
 pub(crate) fn buffer(buffer: &[u64; 8]) {
     text(BUFFER);
     cells(buffer);
-}
-
-fn widened(links: &[u16]) -> [u64; 4097] {
-    let mut wider = [0u64; 4097];
-    let mut k: usize = 0;
-    while k < 4097 {
-        if k < links.len() {
-            wider[k] = wide(links[k]);
-        }
-        k += 1;
-    }
-    wider
-}
-
-pub(crate) fn links(links: &[u16]) {
-    let wider = widened(links);
-    let size = links.len();
-    if size <= 4097 {
-        cells(&wider[0..size]);
-    }
 }

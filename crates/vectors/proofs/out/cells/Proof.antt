@@ -6,10 +6,10 @@ use Rattle.vectors.proofs.out.cells.Statement.{statement}
 use Rattle.vectors.proofs.out.cells.Tie as tie
 
 abbrev Inv-loop : tie.InvT-loop
-Inv-loop cells next₀ k₀ next k = Unit {0}
+Inv-loop cells k₀ k = Unit {0}
 
 abbrev μ-loop : tie.MeasureT-loop
-μ-loop cells next₀ k₀ next k = length cells - k
+μ-loop cells k₀ k = length cells - k
 
 pub cells-spec : {M : Type 1} → statement M
-cells-spec = tie.close (tie.spec Inv-loop μ-loop (λ c. search needs) (λ c. search needs) (λ c. search needs) (λ c. search needs) (λ c. search needs) (λ c. search needs) (λ c. search needs) (λ c. search needs) (λ c. search needs) (λ c. search needs) (λ c. search needs))
+cells-spec = tie.close (tie.spec Inv-loop μ-loop (λ c. search needs) (λ c. search needs) (λ c. search needs) (λ c. search needs) (λ c. search needs) (λ c. search needs) (λ c. search needs) (λ c. search needs) (λ c. search needs))
