@@ -2,9 +2,8 @@
 use crate::words::keep;
 use pools::words::entry_of;
 use pools::words::free_of;
-use pools::words::lists_of;
+use pools::words::has_list;
 use shapes::End;
-use shares::refusals::list_number;
 ghost use mathlib.Core.Path.{_≡_};
 ghost use Rattle.books.specs.Outcome.{outcome};
 ghost use Rattle.faces.specs.Face.{changed, handed, setupFace, pushBackFace, pushFrontFace, popBackFace, popFrontFace, clearFace};
@@ -39,9 +38,11 @@ pub extern "C" fn flailreeve_push_back(
 {
     let seen = pools::check::look(links, values, book, list);
     let refusal = seen.refusal;
-    let early = list_number(refusal.number, lists_of(book), list);
-    if early != 0 {
-        return early;
+    if refusal.number != 0 {
+        return refusal.number;
+    }
+    if !has_list(book, list) {
+        return 4;
     }
     let found = seen.found;
     let entry = entry_of(book, list);
@@ -62,9 +63,11 @@ pub extern "C" fn flailreeve_push_front(
 {
     let seen = pools::check::look(links, values, book, list);
     let refusal = seen.refusal;
-    let early = list_number(refusal.number, lists_of(book), list);
-    if early != 0 {
-        return early;
+    if refusal.number != 0 {
+        return refusal.number;
+    }
+    if !has_list(book, list) {
+        return 4;
     }
     let found = seen.found;
     let entry = entry_of(book, list);
@@ -85,10 +88,13 @@ pub extern "C" fn flailreeve_pop_back(
 {
     let seen = pools::check::look(links, values, book, list);
     let refusal = seen.refusal;
-    let early = list_number(refusal.number, lists_of(book), list);
-    if early != 0 {
+    if refusal.number != 0 {
         *value = 0;
-        return early;
+        return refusal.number;
+    }
+    if !has_list(book, list) {
+        *value = 0;
+        return 4;
     }
     let found = seen.found;
     let entry = entry_of(book, list);
@@ -109,10 +115,13 @@ pub extern "C" fn flailreeve_pop_front(
 {
     let seen = pools::check::look(links, values, book, list);
     let refusal = seen.refusal;
-    let early = list_number(refusal.number, lists_of(book), list);
-    if early != 0 {
+    if refusal.number != 0 {
         *value = 0;
-        return early;
+        return refusal.number;
+    }
+    if !has_list(book, list) {
+        *value = 0;
+        return 4;
     }
     let found = seen.found;
     let entry = entry_of(book, list);
@@ -132,9 +141,11 @@ pub extern "C" fn flailreeve_clear(
 {
     let seen = pools::check::look(links, values, book, list);
     let refusal = seen.refusal;
-    let early = list_number(refusal.number, lists_of(book), list);
-    if early != 0 {
-        return early;
+    if refusal.number != 0 {
+        return refusal.number;
+    }
+    if !has_list(book, list) {
+        return 4;
     }
     let found = seen.found;
     let entry = entry_of(book, list);

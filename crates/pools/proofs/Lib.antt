@@ -1,2 +1,3 @@
--- How a book is put into words.
+-- How a book is put into words, and what a look tells put into one number.
 pub mod Put
+pub mod Told

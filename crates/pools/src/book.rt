@@ -4,17 +4,23 @@ use crate::words::limit_at;
 use crate::words::share_at;
 use crate::words::tail_at;
 ghost use mathlib.Core.Path.{_≡_};
+ghost use mathlib.Core.Bool.{_&&_};
 ghost use Prim.Native.Nat.{_≤_, _<_};
+ghost use lib.Dec.{eqb};
 ghost use lib.ListN.{take, drop};
 ghost use Rattle.books.specs.Book.{eight};
 ghost use Rattle.books.specs.Test.{isFair, isZero, gather, allZero, keepsRules};
 ghost use Rattle.books.specs.Words.{entryFrom, entriesFrom, bookFrom};
 
-// In a pool of so many slots.
+// In a pool of so many slots. One list is asked apart: its share is the sum, and the seven entries after it are gathered without a test
+// of each.
 pub(crate) fn keeps_rules(words: &[u16; 34], size: usize) -> bool
     ensures { λ r. ⌜ r ≡ keepsRules size (eight (bookFrom (now (words .entry)))) ⌝ }
 {
     let lists = crate::words::lists_of(words);
+    if lists == 1 {
+        return keeps_one(words, size);
+    }
     if lists == 0 {
         return false;
     }
@@ -57,14 +63,20 @@ fn shares_fit(words: &[u16; 34], count: usize, size: usize) -> bool
     sum < size
 }
 
-// The four words of an entry are gathered into one, so that the compiler reads them as one number.
+// The four words of an entry are gathered into one, so that the compiler reads them as one number. It is 0 where they all are.
+fn bits_of(words: &[u16; 34], list: usize) -> u16
+    requires { ⌜ list < 8 ⌝ }
+    ensures { λ r. ⌜ eqb r 0 ≡ isZero (entryFrom (now (words .entry)) list) ⌝ }
+{
+    let ends = head_at(words, list) | tail_at(words, list);
+    ends | share_at(words, list) | limit_at(words, list)
+}
+
 fn is_zero(words: &[u16; 34], list: usize) -> bool
     requires { ⌜ list < 8 ⌝ }
     ensures { λ r. ⌜ r ≡ isZero (entryFrom (now (words .entry)) list) ⌝ }
 {
-    let ends = head_at(words, list) | tail_at(words, list);
-    let all = ends | share_at(words, list) | limit_at(words, list);
-    all == 0
+    bits_of(words, list) == 0
 }
 
 // Are all entries from `from` on zero?
@@ -80,4 +92,20 @@ fn rest_zero(words: &[u16; 34], from: usize) -> bool
         k += 1;
     }
     true
+}
+
+// The rules of a book of one list.
+fn keeps_one(words: &[u16; 34], size: usize) -> bool
+    ensures { λ r. ⌜ r ≡ (isFair size (entryFrom (now (words .entry)) 0) && allZero (drop 1 (entriesFrom (now (words .entry))))) ⌝ }
+{
+    if !is_fair(words, 0, size) {
+        return false;
+    }
+    let mut bits: u16 = 0;
+    let mut list: usize = 1;
+    while list < 8 {
+        bits = bits | bits_of(words, list);
+        list += 1;
+    }
+    bits == 0
 }

@@ -24,6 +24,7 @@ ghost use Rattle.shapes.specs.Faults.{fault, gatherOne, gatherFault, gatheredNo
 ghost use Rattle.engines.specs.Sound.{Fit};
 ghost use Rattle.engines.specs.Check.{gatherAll, nullSlotZero, idlePath, idleFound, poolFound, checkFound, lookOf};
 ghost use Rattle.xor.specs.Engine.{xor};
+ghost use Rattle.pools.specs.Word.{toldBy};
 
 // How much of its share a list lacks: share less length, or 0.
 fn lack(share: u16, many: usize) -> usize
@@ -175,6 +176,10 @@ fn null_slot_zero(links: &[u16], values: &[u64]) -> bool
     requires { ⌜ (0 < length (now links)) × (0 < length (now values)) ⌝ }
     ensures { λ r. ⌜ r ≡ nullSlotZero xor (now (links .entry)) (now (values .entry)) ⌝ }
 {
+    // A pool has slots. It is asked here, so that the compiler does not ask before each walk.
+    if links.len() == 0 {
+        return false;
+    }
     if links[0] == 0 {
         return values[0] == 0;
     }
@@ -289,9 +294,9 @@ fn find_over(links: &[u16], values: &[u64], met: &mut [u8], words: &[u16; 34], w
     if !null_slot_zero(links, values) {
         return faulty(10, 0, 0);
     }
+    let count = crate::words::lists_of(words);
     // The null slot is not met. It is said here, so that the compiler does not ask again before each walk.
     met[0] = 0;
-    let count = crate::words::lists_of(words);
     let g = gather(links, met, count, words, wanted);
     let fault = g.fault;
     if fault.rule != 0 {
@@ -321,55 +326,69 @@ fn refused(number: u16) -> Looked
     }
 }
 
-// `look`, with a record that has a place for each slot, and nothing met.
-fn look_over(
-    links: &[u16],
-    values: &[u64],
-    met: &mut [u8],
-    words: &[u16; 34],
-    wanted: u16,
-) -> Looked
-    requires { ⌜ (Size (length (now links)) → length (now links) ≤ length (now met)) × (now met ≡ nothingMet (length (now met))) ⌝ }
-    ensures { λ r. ⌜ r ≡ lookOf xor wanted (now (links .entry)) (now (values .entry)) (eight (bookFrom (now (words .entry)))) ⌝ }
+// `look` where the sizes fit, with a record that has a place for each slot, and nothing met. The slices are lent on as parts of
+// themselves: the compiler then hands them over in registers. So does it with what was found, which is one number.
+fn look_over(links: &[u16], values: &[u64], met: &mut [u8], words: &[u16; 34], wanted: u16) -> usize
+    requires { ⌜ Fit xor (now links) (now values) × (length (now links) ≤ length (now met)) × (now met ≡ nothingMet (length (now met))) ⌝ }
+    ensures { λ r. ⌜ toldBy r ≡ lookOf xor wanted (now (links .entry)) (now (values .entry)) (eight (bookFrom (now (words .entry)))) ⌝ }
 {
-    if !crate::sizes_fit(links.len(), values.len()) {
-        return refused(1);
-    }
-    let found = find(links, values, met, words, wanted);
+    let size = links.len();
+    let found = find(&links[..size], &values[..size], met, words, wanted);
     let fault = found.fault;
     if fault.rule != 0 {
-        return refused(3);
+        return 3;
     }
-    Looked {
-        refusal: Refusal { number: 0 },
-        found,
-    }
+    crate::word::word_of(found.length, found.lacks, found.free)
 }
 
-// Up to 256 slots: the record is made here, one byte for each slot, and lent on.
-fn look_small(links: &[u16], values: &[u64], words: &[u16; 34], wanted: u16) -> Looked
-    requires { ⌜ length (now links) ≤ 256 ⌝ }
-    ensures { λ r. ⌜ r ≡ lookOf xor wanted (now (links .entry)) (now (values .entry)) (eight (bookFrom (now (words .entry)))) ⌝ }
+// Up to 64 slots: the record is made here, one byte for each slot, and lent on.
+fn look_smallest(links: &[u16], values: &[u64], words: &[u16; 34], wanted: u16) -> usize
+    requires { ⌜ Fit xor (now links) (now values) × (length (now links) ≤ 64) ⌝ }
+    ensures { λ r. ⌜ toldBy r ≡ lookOf xor wanted (now (links .entry)) (now (values .entry)) (eight (bookFrom (now (words .entry)))) ⌝ }
+{
+    let mut met = [0u8; 64];
+    look_over(links, values, &mut met, words, wanted)
+}
+
+// Up to 256 slots.
+fn look_small(links: &[u16], values: &[u64], words: &[u16; 34], wanted: u16) -> usize
+    requires { ⌜ Fit xor (now links) (now values) × (length (now links) ≤ 256) ⌝ }
+    ensures { λ r. ⌜ toldBy r ≡ lookOf xor wanted (now (links .entry)) (now (values .entry)) (eight (bookFrom (now (words .entry)))) ⌝ }
 {
     let mut met = [0u8; 256];
     look_over(links, values, &mut met, words, wanted)
 }
 
-// The same for any pool. To clear this record costs as much as to walk along dozens of slots, so small pools have a smaller one.
-// It saves no stack: the two have one place in the frame.
-fn look_large(links: &[u16], values: &[u64], words: &[u16; 34], wanted: u16) -> Looked
-    ensures { λ r. ⌜ r ≡ lookOf xor wanted (now (links .entry)) (now (values .entry)) (eight (bookFrom (now (words .entry)))) ⌝ }
+// Any pool. To clear this record costs as much as to walk along dozens of slots, so smaller pools have smaller ones.
+// It saves no stack: the three have one place in the frame.
+fn look_large(links: &[u16], values: &[u64], words: &[u16; 34], wanted: u16) -> usize
+    requires { ⌜ Fit xor (now links) (now values) ⌝ }
+    ensures { λ r. ⌜ toldBy r ≡ lookOf xor wanted (now (links .entry)) (now (values .entry)) (eight (bookFrom (now (words .entry)))) ⌝ }
 {
     let mut met = [0u8; 4096];
     look_over(links, values, &mut met, words, wanted)
+}
+
+// `look` where the sizes fit.
+fn look_sized(links: &[u16], values: &[u64], words: &[u16; 34], wanted: u16) -> usize
+    requires { ⌜ Fit xor (now links) (now values) ⌝ }
+    ensures { λ r. ⌜ toldBy r ≡ lookOf xor wanted (now (links .entry)) (now (values .entry)) (eight (bookFrom (now (words .entry)))) ⌝ }
+{
+    if links.len() <= 64 {
+        return look_smallest(links, values, words, wanted);
+    }
+    if links.len() <= 256 {
+        return look_small(links, values, words, wanted);
+    }
+    look_large(links, values, words, wanted)
 }
 
 // 1 where the sizes do not fit, 3 where the pool is not sound; else 0, and what the check found.
 pub fn look(links: &[u16], values: &[u64], words: &[u16; 34], wanted: u16) -> Looked
     ensures { λ r. ⌜ r ≡ lookOf xor wanted (now (links .entry)) (now (values .entry)) (eight (bookFrom (now (words .entry)))) ⌝ }
 {
-    if links.len() <= 256 {
-        return look_small(links, values, words, wanted);
+    if !crate::sizes_fit(links.len(), values.len()) {
+        return refused(1);
     }
-    look_large(links, values, words, wanted)
+    crate::word::told(look_sized(links, values, words, wanted))
 }

@@ -6,6 +6,7 @@ ghost use Rattle.books.specs.Test.{sizeFits};
 
 mod book;
 pub mod check;
+mod word;
 pub mod words;
 
 // Number 1 is given exactly where this is false.

@@ -4,19 +4,31 @@ use books::Book;
 use books::Entry;
 use books::Free;
 ghost use mathlib.Core.Path.{_≡_};
+ghost use mathlib.Core.Bool.{_&&_};
 ghost use Prim.Native.Nat.{_<_};
-ghost use lib.Dec.{eqb};
+ghost use lib.Dec.{eqb, ltb};
 ghost use lib.ListN.{length};
 ghost use Rattle.books.specs.Book.{mostLists, eight, bookOf, entryAt, wordsOf};
 ghost use Rattle.books.specs.Words.{entryFrom, entriesFrom, bookFrom};
 ghost use Rattle.shapes.specs.Changes.{withList};
 ghost use Rattle.engines.specs.Calls.{freshBookOf};
+ghost use Rattle.pools.specs.Kept.{withEnds};
 
 // How many lists there are.
 pub fn lists_of(words: &[u16; 34]) -> u16
     ensures { λ r. ⌜ r ≡ bookFrom (now (words .entry)) .lists ⌝ }
 {
     words[0]
+}
+
+// Is there such a list, and a place for it? Once it is known, no read or store of the list's words asks for its place again.
+pub fn has_list(words: &[u16; 34], list: u16) -> bool
+    ensures { λ r. ⌜ r ≡ (ltb list (bookFrom (now (words .entry)) .lists) && ltb list mostLists) ⌝ }
+{
+    if list < words[0] {
+        return list < 8;
+    }
+    false
 }
 
 // The idle chain.
@@ -159,20 +171,27 @@ pub fn with_list(book: Book, k: usize, entry: Entry, free: Free) -> Book
     out
 }
 
-// The same in the words themselves, where five of them are stored.
-pub fn put_list(words: &mut [u16; 34], list: u16, entry: Entry, free: Free)
-    ensures { λ _. ⌜ now (words .exit) ≡ wordsOf (bookOf (withList (eight (bookFrom (now (words .entry)))) list entry free)) ⌝ }
+// The ends of a list and the idle chain, in the words themselves, where three of them are stored. The list's share and limit stay.
+pub fn put_list(words: &mut [u16; 34], list: u16, head: u16, tail: u16, free: Free)
+    ensures { λ _. ⌜ now (words .exit) ≡ wordsOf (bookOf (withList (eight (bookFrom (now (words .entry)))) list (withEnds head tail (entryAt (bookFrom (now (words .entry)) .entries) list)) free)) ⌝ }
 {
     let k = rules::wide(list);
     if k < 8 {
         if has_all(words) {
-            put_five(words, k, entry, free);
+            put_three(words, k, head, tail, free);
             return;
         }
     }
     // A list past the eighth: the ten calls never come here. Nor do they for want of a word; a reference to an array tells the prover
     // nothing of its length, so that has to be asked, and the compiler, which knows it, leaves the question out.
     let held = book_from(words);
+    let old = entry_of(words, list);
+    let entry = Entry {
+        head,
+        tail,
+        share: old.share,
+        limit: old.limit,
+    };
     *words = words_of(with_list(held, k, entry, free));
 }
 
@@ -182,14 +201,12 @@ fn has_all(words: &[u16]) -> bool
     words.len() == 34
 }
 
-fn put_five(words: &mut [u16; 34], list: usize, entry: Entry, free: Free)
+fn put_three(words: &mut [u16; 34], list: usize, head: u16, tail: u16, free: Free)
     requires { ⌜ (list < 8) × (length (now words) ≡ 34) ⌝ }
-    ensures { λ _. ⌜ now (words .exit) ≡ wordsOf (bookOf (withList (eight (bookFrom (now (words .entry)))) list entry free)) ⌝ }
+    ensures { λ _. ⌜ now (words .exit) ≡ wordsOf (bookOf (withList (eight (bookFrom (now (words .entry)))) list (withEnds head tail (entryFrom (now (words .entry)) list)) free)) ⌝ }
 {
     let k = 4 * list;
-    words[k + 1] = entry.head;
-    words[k + 2] = entry.tail;
-    words[k + 3] = entry.share;
-    words[k + 4] = entry.limit;
+    words[k + 1] = head;
+    words[k + 2] = tail;
     words[33] = free.head;
 }

@@ -7,7 +7,7 @@ ghost use Rattle.shapes.specs.Numbers.{firstThat};
 ghost use Rattle.shapes.specs.Tests.{pushOwnTests, popOwnTests, readOwnTests};
 
 // The number after the check and the test of the list: 1 or 3 where the check gave it; else 4 where there is no such list; else 0.
-pub fn list_number(number: u16, lists: u16, list: u16) -> u16
+pub(crate) fn list_number(number: u16, lists: u16, list: u16) -> u16
     ensures { λ r. ⌜ r ≡ cond (eqb number 0 && leb lists list) 4 number ⌝ }
 {
     if number == 0 {

@@ -46,7 +46,7 @@ returns c = c .faulty .ensures ∙ pool-null xor _ _ _ _ _ (sym (c .before .befo
 -- the null slot has a place
 first-place : tie.Need-slice-write-met
 first-place c =
-    let s = c .before .before .before .before .before in
+    let s = c .before .before .before .before .before .before in
     let h : 0 < length (now (s .args .met)) = nothing-place _ (s .pre .1) (omega (arith, s .pre .0 .size .least)) in
     search needs
 
@@ -81,8 +81,8 @@ find-over-spec =
     (λ c. search needs)
     (λ c. search needs)
     returns
-    first-place
     (λ c κs. search needs)
+    first-place
     (λ c κs. omega (arith, c .before .lists-of .ensures, c .before .before .before .before .before .before .before .pre .2))
     (λ c. search needs)
     (λ c. let g = c .before .before .before .before .before .before in g .gather .kept .1 .0 ∙ length-set (now (start g .args .met)) 0 0)

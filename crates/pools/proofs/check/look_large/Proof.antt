@@ -7,7 +7,7 @@ use Rattle.pools.proofs.check.look_large.Tie as tie
 
 look-over-requires : tie.Need-look-over-requires
 unfolding nothingMet
-look-over-requires c κs = (λ f. f .most, refl)
+look-over-requires c κs = (c .before .before .before .pre, c .before .before .before .pre .size .most, refl)
 
 pub look-large-spec : {M : Type 1} → statement M
 look-large-spec = tie.close (tie.spec (λ c. search needs) look-over-requires (λ c. search needs))

@@ -7,7 +7,7 @@ use Rattle.pools.proofs.check.look_small.Tie as tie
 
 look-over-requires : tie.Need-look-over-requires
 unfolding nothingMet
-look-over-requires c κs = (λ f. c .before .before .before .pre, refl)
+look-over-requires c κs = (c .before .before .before .pre .0, c .before .before .before .pre .1, refl)
 
 pub look-small-spec : {M : Type 1} → statement M
 look-small-spec = tie.close (tie.spec (λ c. search needs) look-over-requires (λ c. search needs))

@@ -1,4 +1,4 @@
--- `pools::book::is_zero`: what the four words are gathered into is 0 exactly where each is.
+-- `pools::book::bits_of`: what the four words are gathered into is 0 exactly where each is.
 use mathlib.Core.Path.{_≡_}
 use mathlib.Core.Bool.{_&&_}
 use Prim.Native.Nat.{ℕ}
@@ -9,8 +9,8 @@ use borrow.Author.Needs.{needs}
 use Rattle.books.specs.Test.{isZero}
 use Rattle.books.specs.Words.{entryFrom}
 use Rattle.books.proofs.Tests.{or-zero, and-in-turn}
-use Rattle.pools.proofs.book.is_zero.Statement.{statement}
-use Rattle.pools.proofs.book.is_zero.Tie as tie
+use Rattle.pools.proofs.book.bits_of.Statement.{statement}
+use Rattle.pools.proofs.book.bits_of.Tie as tie
 
 gathered : (head tail share limit : ℕ) → eqb (bitOr (bitOr (bitOr head tail) share) limit) 0 ≡ eqb head 0 && (eqb tail 0 && (eqb share 0 && eqb limit 0))
 gathered head tail share limit = rw (or-zero (bitOr (bitOr head tail) share) limit, or-zero (bitOr head tail) share, or-zero head tail) (and-in-turn (eqb head 0) (eqb tail 0) (eqb share 0) (eqb limit 0))
@@ -21,5 +21,5 @@ returns c =
     let e = entryFrom (now (c .before .before .before .before .args .words)) (c .before .before .before .before .args .list) in
     rw (c .before .before .before .head-at .ensures, c .before .before .tail-at .ensures, c .before .share-at .ensures, c .limit-at .ensures) (gathered (e .head) (e .tail) (e .share) (e .limit))
 
-pub is-zero-spec : {M : Type 1} → statement M
-is-zero-spec = tie.close (tie.spec (λ c κs. search needs) (λ c κs. search needs) (λ c κs. search needs) (λ c κs. search needs) returns)
+pub bits-of-spec : {M : Type 1} → statement M
+bits-of-spec = tie.close (tie.spec (λ c κs. search needs) (λ c κs. search needs) (λ c κs. search needs) (λ c κs. search needs) returns)

@@ -1,0 +1,65 @@
+-- What the check finds in a sound pool has a place in one number: each count is below 4,096. And what a look tells there is these counts.
+use mathlib.Core.Path.{_≡_, sym, ap, _∙_}
+use mathlib.Core.List.{List}
+use Prim.Native.Nat.{ℕ, _-_, _<_}
+use native.Mathlib.Omega.{arith}
+use native.Mathlib.Decide.{decLt}
+use lib.ListN.{length, length-append}
+use borrow.Author.Tests.{eq-eqb, ne-eqb}
+use Rattle.books.specs.Book.{AnyBook}
+use Rattle.chains.proofs.Cover.{once-full}
+use Rattle.shapes.specs.declared.Found.{Found}
+use Rattle.shapes.specs.Shape.{Shape, joinedUp, everySlot}
+use Rattle.shapes.specs.Faults.{noFault, refusedBy}
+use Rattle.engines.specs.Sound.{Fit, SoundBook}
+use Rattle.engines.specs.Check.{checkFound, lookOf}
+use Rattle.engines.proofs.Checked.{fits-exactly, found-exactly}
+use Rattle.engines.proofs.Found.{found-fine, found-lacks, found-free, found-beyond, found-length, shorter}
+use Rattle.xor.specs.Engine.{xor}
+use Rattle.xor.proofs.Lawful.{xor-lawful}
+use Rattle.pools.specs.Word.{fine}
+
+module _ {links values : List ℕ} {b : AnyBook} {s : Shape} (S : SoundBook xor links values b s) (wanted : ℕ) where
+  -- the free slots are some of the N-1
+  idle-below : length (s .idle) < 4096
+  idle-below =
+      omega (
+        arith,
+        S .pool .fit .size .least,
+        S .pool .fit .size .most,
+        once-full (length links - 1) (everySlot s) (λ z k. let o = S .pool .only z k in (o .0, omega (arith, o .1))) (λ y p q. S .pool .once y p (omega (arith, S .pool .fit .size .least))),
+        length-append (joinedUp (s .chains)) (s .idle),
+      )
+
+  free-below : checkFound xor wanted links values b .free < 4096
+  free-below = omega (arith, found-free xor-lawful S wanted, idle-below)
+
+  lacks-below : checkFound xor wanted links values b .lacks < 4096
+  lacks-below = omega (arith, found-lacks xor-lawful S wanted, S .pool .spare, idle-below)
+
+  length-below : checkFound xor wanted links values b .length < 4096
+  length-below = go (decLt wanted (b .lists))
+    where
+      go : Dec (wanted < b .lists) → checkFound xor wanted links values b .length < 4096
+      go (yes h) = omega (arith, found-length xor-lawful S wanted h, shorter S wanted h)
+      go (no h) = omega (arith, found-beyond xor-lawful S wanted (omega (arith, h)))
+
+module _ (wanted : ℕ) (links values : List ℕ) (b : AnyBook) (fit : Fit xor links values) where
+  pub found-below : checkFound xor wanted links values b .fault .rule ≡ 0
+      → (checkFound xor wanted links values b .length < 65536) × (checkFound xor wanted links values b .lacks < 65536) × (checkFound xor wanted links values b .free < 65536)
+  found-below z =
+      let (s, S) = found-exactly xor-lawful wanted links values b fit .0 z in
+      (omega (arith, length-below S wanted), omega (arith, lacks-below S wanted), omega (arith, free-below S wanted))
+
+  -- a pool with no fault
+  pub look-fine : (f : Found) → f ≡ checkFound xor wanted links values b → f .fault .rule ≡ 0 → fine (f .length) (f .lacks) (f .free) ≡ lookOf xor wanted links values b
+  unfolding lookOf
+  look-fine f e z =
+      let (s, S) = found-exactly xor-lawful wanted links values b fit .0 (ap (λ (g : Found). g .fault .rule) (sym e) ∙ z) in
+      let clean : f .fault ≡ noFault = ap (λ (g : Found). g .fault) e ∙ found-fine xor-lawful S wanted in
+      simp (fits-exactly xor links values .1 fit, ← e, eq-eqb _ _ z, ← clean)
+
+  -- a pool with a fault
+  pub look-unsound : (f : Found) → f ≡ checkFound xor wanted links values b → (f .fault .rule ≡ 0 → ⊥) → refusedBy 3 ≡ lookOf xor wanted links values b
+  unfolding lookOf
+  look-unsound f e d = simp (fits-exactly xor links values .1 fit, ← e, ne-eqb _ _ d)

@@ -1,0 +1,7 @@
+-- What of a list's entry a call on the list may change.
+use Prim.Native.Nat.{ℕ}
+use Rattle.books.specs.declared.Entry.{Entry}
+
+-- its ends are these, and its share and limit stay
+abbrev pub withEnds : ℕ → ℕ → Entry → Entry
+withEnds head tail e = record { head = head; tail = tail; share = e .share; limit = e .limit }
