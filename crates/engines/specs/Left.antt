@@ -55,6 +55,10 @@ six a b c d e f = a ∷ b ∷ c ∷ d ∷ e ∷ f ∷ []
 abbrev full : State trial
 full = pool (six 0 2 4 1 0 0) (six 0 3 1 0 2 0) (six 0 allBits allBits allBits allBits allBits) 2 (ends 3 4 5 5) 0
 
+-- list 0 has slots 3, 1 and 2, and list 1 has slots 5 and 4
+abbrev otherHeld : State trial
+otherHeld = pool (six 0 2 0 1 0 4) (six 0 3 1 0 5 0) (six 0 20 30 10 70 60) 2 (ends 3 2 5 4) 0
+
 abbrev joinedAll : List (List CallCase) → List CallCase
 joinedAll [] = []
 joinedAll (ts ∷ more) = ts ++ joinedAll more
@@ -70,6 +74,8 @@ turns =
     ∷ turn full (clear 0) 0 0 (pool (six 0 3 1 0 2 0) (six 0 0 0 0 0 0) (six 0 0 0 0 0 allBits) 2 (ends 0 0 5 5) 4)
     ∷ turn full (clear 1) 0 0 (pool (six 0 2 4 1 0 0) (six 0 3 1 0 2 0) (six 0 allBits allBits allBits allBits 0) 2 (ends 3 4 0 0) 5)
     ∷ turn trialP3 (clear 1) 0 0 trialP3
+    ∷ turn otherHeld (clear 1) 0 0 (pool (six 0 2 0 1 5 0) (six 0 3 1 0 0 0) (six 0 20 30 10 0 0) 2 (ends 3 2 0 0) 4)
+    ∷ turn otherHeld (popBack 1) 0 70 (pool (six 0 2 0 1 0 0) (six 0 3 1 0 0 0) (six 0 20 30 10 0 60) 2 (ends 3 2 5 5) 4)
     -- "take the slot at the free head"; the other list keeps what it has
     ∷ turn trialP3 (pushBack 1 allBits) 0 0 (pool (six 0 2 4 1 0 0) (six 0 3 1 0 2 0) (six 0 20 30 10 40 allBits) 2 (ends 3 4 5 5) 0)
     ∷ turn trialP3 (pushFront 1 60) 0 0 (pool (six 0 2 4 1 0 0) (six 0 3 1 0 2 0) (six 0 20 30 10 40 60) 2 (ends 3 4 5 5) 0)
@@ -129,6 +135,10 @@ readsTried =
     ∷ readTurn trialP3 Front 0 (six 1 2 3 4 5 6) 2 0 4 (six 1 2 10 20 30 40)
     ∷ readTurn trialP3 Back 0 (six 1 2 3 4 5 6) 0 0 4 (six 40 30 20 10 5 6)
     ∷ readTurn full Front 0 (six 1 2 3 4 5 6) 1 0 4 (six 1 allBits allBits allBits allBits 6)
+    -- another list than the first
+    ∷ readTurn otherHeld Front 1 (six 1 2 3 4 5 6) 4 0 2 (six 1 2 3 4 60 70)
+    ∷ readTurn otherHeld Back 1 (six 1 2 3 4 5 6) 4 0 2 (six 1 2 3 4 70 60)
+    ∷ readTurn otherHeld Back 0 (six 1 2 3 4 5 6) 3 0 3 (six 1 2 3 30 20 10)
     -- too few places; none written, at the buffer's length, and one place further
     ∷ readTurn trialP3 Front 0 (six 1 2 3 4 5 6) 3 8 0 (six 1 2 3 4 5 6)
     ∷ readTurn trialP3 Back 0 (six 1 2 3 4 5 6) 3 8 0 (six 1 2 3 4 5 6)

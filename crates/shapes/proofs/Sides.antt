@@ -1,6 +1,6 @@
 -- The cases of `Sides` pass, and declared ones on both sides of `Room` and of setup's rules.
 use mathlib.Core.Path.{_≡_, refl}
-use mathlib.Core.Bool.{true}
+use mathlib.Core.Bool.{true, false}
 use mathlib.Core.List.{List, [], _∷_, _++_}
 use mathlib.Core.Logic.{_⊎_, inl, inr}
 use Prim.Native.Nat.{ℕ, zero, suc, _≤_, _<_}
@@ -10,7 +10,7 @@ use lib.ListN.{getD, replicate}
 use Rattle.books.specs.declared.Entry.{Entry}
 use Rattle.shapes.specs.Met.{isMetOf, markOf, unmet}
 use Rattle.shapes.specs.Walk.{walkOn, walkable}
-use Rattle.shapes.specs.Faults.{spareFault, idleFault}
+use Rattle.shapes.specs.Faults.{nothingMet, spareFault, idleFault}
 use Rattle.shapes.specs.Shape.{Shape, Room, lacks}
 use Rattle.shapes.specs.Setup.{freshValue, SetupRules}
 use Rattle.shapes.specs.Sides.{pairsPass, ownNumbers, unwipedSlots, walksTried, walksPass, faultsTried, faultsPass}
@@ -28,6 +28,12 @@ all-walks-tried = refl
 pub all-faults-tried : faultsPass faultsTried ≡ true
 unfolding idleFault spareFault isMetOf
 all-faults-tried = refl
+
+-- the record has a place for each of N slots, none met; a slot with no place counts as met
+pub record-tried : (nothingMet 4 ≡ 0 ∷ 0 ∷ 0 ∷ 0 ∷ []) × (isMetOf (0 ∷ 0 ∷ 1 ∷ []) 1 ≡ false) × (isMetOf (0 ∷ 0 ∷ 1 ∷ []) 2 ≡ true) × (isMetOf (0 ∷ 0 ∷ 1 ∷ []) 3 ≡ true)
+    × (markOf (0 ∷ 0 ∷ 0 ∷ []) 2 ≡ 0 ∷ 0 ∷ 1 ∷ [])
+unfolding nothingMet isMetOf markOf
+record-tried = (refl, refl, refl, refl, refl)
 
 -- 01: "all values 0", in any slot
 pub fresh-values-tried : (freshValue 0 ≡ 0) × (freshValue 1 ≡ 0) × (freshValue 2 ≡ 0) × (freshValue 4095 ≡ 0)

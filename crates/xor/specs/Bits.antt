@@ -15,15 +15,15 @@ use Rattle.xor.specs.Engine.{freshLink}
 use Rattle.xor.specs.Edges.{Edge, edge}
 
 -- N = 2 and one list, share 0 and limit 1: slot 1 is free, or it is the list's. Its link and its value
-abbrev oneFree : ℕ → ℕ → ℕ → Edge
-oneFree number link value = edge number (0 ∷ link ∷ []) (0 ∷ value ∷ []) 1 (entry 0 0 0 1 ∷ none 7) 1
+abbrev pub freeHolds : ℕ → ℕ → ℕ → Edge
+freeHolds number link value = edge number (0 ∷ link ∷ []) (0 ∷ value ∷ []) 1 (entry 0 0 0 1 ∷ none 7) 1
 
-abbrev oneLive : ℕ → ℕ → ℕ → Edge
-oneLive number link value = edge number (0 ∷ link ∷ []) (0 ∷ value ∷ []) 1 (entry 1 1 0 1 ∷ none 7) 0
+abbrev pub liveHolds : ℕ → ℕ → ℕ → Edge
+liveHolds number link value = edge number (0 ∷ link ∷ []) (0 ∷ value ∷ []) 1 (entry 1 1 0 1 ∷ none 7) 0
 
 -- slot 0's link and value, where slot 1 is free
-abbrev nullHas : ℕ → ℕ → Edge
-nullHas link value = edge 3 (link ∷ 0 ∷ []) (value ∷ 0 ∷ []) 1 (entry 0 0 0 1 ∷ none 7) 1
+abbrev pub nullHolds : ℕ → ℕ → Edge
+nullHolds link value = edge 3 (link ∷ 0 ∷ []) (value ∷ 0 ∷ []) 1 (entry 0 0 0 1 ∷ none 7) 1
 
 abbrev four : ℕ → ℕ → ℕ → ℕ → List ℕ
 four a b c d = a ∷ b ∷ c ∷ d ∷ []
@@ -42,30 +42,30 @@ flipped cells slot bit = set cells slot (bitXor (cell cells slot) bit)
 abbrev pub oneBit : List Edge
 oneBit =
     -- sound: a live slot may hold any value, a link may be N or more (01's P8), a list may have every slot
-    oneFree 0 0 0
-    ∷ oneLive 0 0 0
-    ∷ oneLive 0 0 allBits
+    freeHolds 0 0 0
+    ∷ liveHolds 0 0 0
+    ∷ liveHolds 0 0 allBits
     ∷ threeLive 0 (four 0 2 2 2) 1 3
     ∷ threeFree 0 (four 0 2 3 0) (four 0 0 0 0) 1
     ∷ edge 0 (0 ∷ 7 ∷ 5 ∷ 1 ∷ 1 ∷ 0 ∷ []) (0 ∷ 200 ∷ 0 ∷ 100 ∷ 300 ∷ 0 ∷ []) 1 (entry 3 4 0 5 ∷ none 7) 2
     -- "every free slot's value is 0; slot 0 has link 0 and value 0"
-    ∷ oneFree 3 0 allBits
-    ∷ nullHas 0 allBits
-    ∷ nullHas 65535 0
-    ∷ map (λ b. oneFree 3 0 b) valueBits
-    ++ map (λ b. nullHas 0 b) valueBits
-    ++ map (λ b. oneLive 0 0 b) valueBits
-    ++ map (λ b. nullHas b 0) wordBits
+    ∷ freeHolds 3 0 allBits
+    ∷ nullHolds 0 allBits
+    ∷ nullHolds 65535 0
+    ∷ map (λ b. freeHolds 3 0 b) valueBits
+    ++ map (λ b. nullHolds 0 b) valueBits
+    ++ map (λ b. liveHolds 0 0 b) valueBits
+    ++ map (λ b. nullHolds b 0) wordBits
     ++ map (λ b. threeFree 3 (four 0 2 3 0) (four 0 b 0 0) 1) valueBits
     ++ map (λ b. threeFree 3 (four 0 2 3 0) (four 0 0 b 0) 1) valueBits
     ++ map (λ b. threeFree 3 (four 0 2 3 0) (four 0 0 0 b) 1) valueBits
     -- "a live slot's link is the XOR of the slots before and after it": of an only slot, and of a first, a middle and a last one
-    ++ map (λ b. oneLive 3 b 5) wordBits
+    ++ map (λ b. liveHolds 3 b 5) wordBits
     ++ map (λ b. threeLive 3 (flipped (four 0 2 2 2) 1 b) 1 3) wordBits
     ++ map (λ b. threeLive 3 (flipped (four 0 2 2 2) 2 b) 1 3) wordBits
     ++ map (λ b. threeLive 3 (flipped (four 0 2 2 2) 3 b) 1 3) wordBits
     -- "a free slot's link is the next free slot, 0 at the last"
-    ++ map (λ b. oneFree 3 b 0) wordBits
+    ++ map (λ b. freeHolds 3 b 0) wordBits
     ++ map (λ b. threeFree 3 (flipped (four 0 2 3 0) 1 b) (four 0 0 0 0) 1) wordBits
     ++ map (λ b. threeFree 3 (flipped (four 0 2 3 0) 2 b) (four 0 0 0 0) 1) wordBits
     ++ map (λ b. threeFree 3 (flipped (four 0 2 3 0) 3 b) (four 0 0 0 0) 1) wordBits

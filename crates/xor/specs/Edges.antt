@@ -76,10 +76,14 @@ edges =
     ∷ edge 1 (0 ∷ 0 ∷ []) (0 ∷ 0 ∷ 0 ∷ []) 1 (none 8) 1
     ∷ []
 
+-- the number that a look gives
+abbrev pub lookNumber : Edge → ℕ
+lookNumber e = lookOf xor 0 (e .links) (e .values) (e .book) .refusal .number
+
 -- does a look give each its number?
 abbrev pub edgesPass : List Edge → Bool
 edgesPass [] = true
-edgesPass (e ∷ es) = eqb (lookOf xor 0 (e .links) (e .values) (e .book) .refusal .number) (e .number) && edgesPass es
+edgesPass (e ∷ es) = eqb (lookNumber e) (e .number) && edgesPass es
 
 -- a pool with its book, and its first fault: the rule, the list and the place
 pub record Broken : Type 0 where
