@@ -5,6 +5,7 @@ use Prim.Native.Nat.{ℕ}
 use lib.Bits.{bitXor}
 use lib.Dec.{eqb}
 use lib.ListN.{set}
+use Rattle.books.specs.Book.{entryWords}
 use Rattle.books.specs.Tried.{wordBits, valueBits, allBits, sameNumbers, entry, none}
 use Rattle.chains.specs.Chain.{cell}
 use Rattle.shapes.specs.declared.End.{End}
@@ -91,9 +92,22 @@ throughSteps end value =
     && (eqb (popped .answer .value) value
     && (sameNumbers (popped .links) (six 0 0 3 4 5 0) && sameNumbers (popped .values) (six 0 8 0 0 0 0))))
 
+-- the same with an empty list: the value stands in slot 1, which is head and tail then; popped, the list is empty again
+abbrev pub throughEmpty : End → ℕ → Bool
+throughEmpty end value =
+    let list = entry 0 0 2 5 in
+    let pushed = pushOf end (six 0 2 3 4 5 0) (six 0 0 0 0 0 0) list (record { head = 1 }) value in
+    let popped = popOf end (pushed .links) (pushed .values) (pushed .answer .entry) (pushed .answer .free) in
+    sameNumbers (pushed .links) (six 0 0 3 4 5 0)
+    && (sameNumbers (pushed .values) (six 0 value 0 0 0 0)
+    && (sameNumbers (pushed .answer .free .head ∷ entryWords (pushed .answer .entry ∷ [])) (2 ∷ 1 ∷ 1 ∷ 2 ∷ 5 ∷ [])
+    && (eqb (popped .answer .value) value
+    && (sameNumbers (popped .answer .free .head ∷ entryWords (popped .answer .entry ∷ [])) (1 ∷ 0 ∷ 0 ∷ 2 ∷ 5 ∷ [])
+    && (sameNumbers (popped .links) (six 0 2 3 4 5 0) && sameNumbers (popped .values) (six 0 0 0 0 0 0))))))
+
 abbrev pub allThrough : List ℕ → Bool
 allThrough [] = true
-allThrough (v ∷ vs) = throughSteps Front v && (throughSteps Back v && allThrough vs)
+allThrough (v ∷ vs) = throughSteps Front v && (throughSteps Back v && (throughEmpty Front v && (throughEmpty Back v && allThrough vs)))
 
 -- ---- the slots
 
