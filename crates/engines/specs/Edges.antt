@@ -53,6 +53,10 @@ threeFree number next previous values free = edge number next previous values 1 
 abbrev four : ℕ → ℕ → ℕ → ℕ → List ℕ
 four a b c d = a ∷ b ∷ c ∷ d ∷ []
 
+-- the three are one list's, with this limit
+abbrev limited : ℕ → ℕ → LookCase
+limited number limit = edge number (four 0 2 3 0) (four 0 0 1 2) (four 0 7 8 9) 1 (entry 1 3 0 limit ∷ none 7) 0
+
 -- 01: "each list's head and tail are the first and last slot of its sequence", "a live slot's link", "the free head is the first free slot or 0; a free slot's link is the next free slot", "every free slot's value is 0"
 abbrev pub chains : List LookCase
 chains =
@@ -86,6 +90,11 @@ chains =
     -- slot 2 is live: its value is its own, and slots 1 and 3 are free
     ∷ edge 0 (four 0 3 0 0) (four 0 0 0 0) (four 0 0 allBits 0) 1 (entry 2 2 0 3 ∷ none 7) 1
     ∷ edge 3 (four 0 3 0 0) (four 0 0 0 0) (four 0 0 allBits 1) 1 (entry 2 2 0 3 ∷ none 7) 1
+    -- "no list is longer than its limit": three slots, at the limit and over it
+    ∷ limited 0 3
+    ∷ limited 3 2
+    ∷ limited 3 1
+    ∷ limited 3 0
     -- a head, a tail and a free head with one bit more
     ∷ map (λ b. threeLive 3 (four 0 2 3 0) (four 0 0 1 2) (1 + b) 3 0) wordBits
     ++ map (λ b. threeLive 3 (four 0 2 3 0) (four 0 0 1 2) 1 (3 + b) 0) wordBits
