@@ -14,7 +14,7 @@ use Rattle.engines.specs.Check.{sizesFit, idlePath, gatherAll, nullSlotZ
 use Rattle.engines.specs.Reads.{isSlot, valuesAlong, clearOn}
 use Rattle.engines.specs.Calls.{setupCall, checkCall, lengthCall, pushCall, popCall, clearCall, readCall}
 use Rattle.engines.specs.Turns.{ones, listNumbers, pushNumbers, everyPush, readNumbers, numbersPass}
-use Rattle.engines.specs.Left.{turns, callsPass, readsTried, readsPass, lengths, setups, setupsPass, sizeGives}
+use Rattle.engines.specs.Left.{turns, callsPass, readsTried, readsPass, lengths, eightLengths, setups, setupsPass, sizeGives}
 
 pub ones-tried : numbersPass ones ≡ true
 unfolding isFair isZero gather allZero keepsRules nearOf withNear isMetOf markOf unmet walkOn walkable decided nothingMet spareFault idleFault sizesFit idlePath gatherAll nullSlotZero poolFound checkFound isSlot valuesAlong clearOn checkCall lengthCall pushCall popCall clearCall readCall
@@ -47,9 +47,9 @@ pub reads-tried : readsPass readsTried ≡ true
 unfolding isFair isZero gather allZero keepsRules nearOf withNear isMetOf markOf unmet walkOn walkable decided nothingMet spareFault idleFault sizesFit idlePath gatherAll nullSlotZero poolFound checkFound isSlot valuesAlong clearOn checkCall lengthCall pushCall popCall clearCall readCall
 reads-tried = refl
 
-pub lengths-tried : lengths ≡ 4 ∷ 1 ∷ 0 ∷ 0 ∷ []
+pub lengths-tried : (lengths ≡ 4 ∷ 1 ∷ 0 ∷ 0 ∷ []) × (eightLengths ≡ 0 ∷ 0 ∷ 0 ∷ 1 ∷ 0 ∷ 0 ∷ 0 ∷ 2 ∷ 0 ∷ [])
 unfolding isFair isZero gather allZero keepsRules isMetOf markOf unmet walkOn walkable decided nothingMet spareFault idleFault sizesFit idlePath gatherAll nullSlotZero poolFound checkFound lengthCall
-lengths-tried = refl
+lengths-tried = (refl, refl)
 
 -- and after a setup; and setup's numbers
 pub setups-tried : setupsPass setups ≡ true

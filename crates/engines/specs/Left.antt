@@ -59,6 +59,16 @@ full = pool (six 0 2 4 1 0 0) (six 0 3 1 0 2 0) (six 0 allBits allBits allBits a
 abbrev otherHeld : State trial
 otherHeld = pool (six 0 2 0 1 0 4) (six 0 3 1 0 5 0) (six 0 20 30 10 70 60) 2 (ends 3 2 5 4) 0
 
+-- N = 5 and eight lists: list 3 has slot 1, list 7 has slots 2 and 3, and slot 4 is free
+abbrev eightEntries : Entry → Entry → List Entry
+eightEntries third seventh = none 3 ++ third ∷ none 3 ++ seventh ∷ []
+
+abbrev five : ℕ → ℕ → ℕ → ℕ → ℕ → List ℕ
+five a b c d e = a ∷ b ∷ c ∷ d ∷ e ∷ []
+
+abbrev lastHeld : State trial
+lastHeld = pool (five 0 0 3 0 0) (five 0 0 0 2 0) (five 0 10 20 30 0) 8 (eightEntries (entry 1 1 0 2) (entry 2 3 0 3)) 4
+
 abbrev joinedAll : List (List CallCase) → List CallCase
 joinedAll [] = []
 joinedAll (ts ∷ more) = ts ++ joinedAll more
@@ -76,6 +86,13 @@ turns =
     ∷ turn trialP3 (clear 1) 0 0 trialP3
     ∷ turn otherHeld (clear 1) 0 0 (pool (six 0 2 0 1 5 0) (six 0 3 1 0 0 0) (six 0 20 30 10 0 0) 2 (ends 3 2 0 0) 4)
     ∷ turn otherHeld (popBack 1) 0 70 (pool (six 0 2 0 1 0 0) (six 0 3 1 0 0 0) (six 0 20 30 10 0 60) 2 (ends 3 2 5 5) 4)
+    -- the last of eight lists
+    ∷ turn lastHeld (pushBack 7 40) 0 0 (pool (five 0 0 3 4 0) (five 0 0 0 2 3) (five 0 10 20 30 40) 8 (eightEntries (entry 1 1 0 2) (entry 2 4 0 3)) 0)
+    ∷ turn lastHeld (pushFront 7 40) 0 0 (pool (five 0 0 3 0 2) (five 0 0 4 2 0) (five 0 10 20 30 40) 8 (eightEntries (entry 1 1 0 2) (entry 4 3 0 3)) 0)
+    ∷ turn lastHeld (popBack 7) 0 30 (pool (five 0 0 0 4 0) (five 0 0 0 0 0) (five 0 10 20 0 0) 8 (eightEntries (entry 1 1 0 2) (entry 2 2 0 3)) 3)
+    ∷ turn lastHeld (popFront 7) 0 20 (pool (five 0 0 4 0 0) (five 0 0 0 0 0) (five 0 10 0 30 0) 8 (eightEntries (entry 1 1 0 2) (entry 3 3 0 3)) 2)
+    ∷ turn lastHeld (clear 7) 0 0 (pool (five 0 0 4 2 0) (five 0 0 0 0 0) (five 0 10 0 0 0) 8 (eightEntries (entry 1 1 0 2) (entry 0 0 0 3)) 3)
+    ∷ turn lastHeld (popBack 3) 0 10 (pool (five 0 4 3 0 0) (five 0 0 0 2 0) (five 0 0 20 30 0) 8 (eightEntries (entry 0 0 0 2) (entry 2 3 0 3)) 1)
     -- "take the slot at the free head"; the other list keeps what it has
     ∷ turn trialP3 (pushBack 1 allBits) 0 0 (pool (six 0 2 4 1 0 0) (six 0 3 1 0 2 0) (six 0 20 30 10 40 allBits) 2 (ends 3 4 5 5) 0)
     ∷ turn trialP3 (pushFront 1 60) 0 0 (pool (six 0 2 4 1 0 0) (six 0 3 1 0 2 0) (six 0 20 30 10 40 60) 2 (ends 3 4 5 5) 0)
@@ -139,6 +156,9 @@ readsTried =
     ∷ readTurn otherHeld Front 1 (six 1 2 3 4 5 6) 4 0 2 (six 1 2 3 4 60 70)
     ∷ readTurn otherHeld Back 1 (six 1 2 3 4 5 6) 4 0 2 (six 1 2 3 4 70 60)
     ∷ readTurn otherHeld Back 0 (six 1 2 3 4 5 6) 3 0 3 (six 1 2 3 30 20 10)
+    ∷ readTurn lastHeld Front 7 (six 1 2 3 4 5 6) 0 0 2 (six 20 30 3 4 5 6)
+    ∷ readTurn lastHeld Back 7 (six 1 2 3 4 5 6) 0 0 2 (six 30 20 3 4 5 6)
+    ∷ readTurn lastHeld Front 3 (six 1 2 3 4 5 6) 5 0 1 (six 1 2 3 4 5 10)
     -- too few places; none written, at the buffer's length, and one place further
     ∷ readTurn trialP3 Front 0 (six 1 2 3 4 5 6) 3 8 0 (six 1 2 3 4 5 6)
     ∷ readTurn trialP3 Back 0 (six 1 2 3 4 5 6) 3 8 0 (six 1 2 3 4 5 6)
@@ -158,6 +178,10 @@ readsPass (t ∷ ts) =
 -- the length of each list, and 0 of one that there is not
 abbrev pub lengths : List ℕ
 lengths = map (λ l. lengthCall trial (full .links) (full .values) (full .book) l .length) (0 ∷ 1 ∷ 2 ∷ 9 ∷ [])
+
+-- and of each of eight lists
+abbrev pub eightLengths : List ℕ
+eightLengths = map (λ l. lengthCall trial (lastHeld .links) (lastHeld .values) (lastHeld .book) l .length) (numbersFrom 0 9)
 
 -- ---- setup, in a book of eight
 
