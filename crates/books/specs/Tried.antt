@@ -23,6 +23,10 @@ wordBits = doubles 16 1
 abbrev pub valueBits : List ℕ
 valueBits = doubles 64 1
 
+-- the lowest and the highest bit of a value, of its halves and of its quarters, and the last but one
+abbrev pub edgeBits : List ℕ
+edgeBits = 1 ∷ 32768 ∷ 65536 ∷ 2147483648 ∷ 4294967296 ∷ 140737488355328 ∷ 281474976710656 ∷ 4611686018427387904 ∷ 9223372036854775808 ∷ []
+
 -- the largest value: all of its 64 bits are set
 abbrev pub allBits : ℕ
 allBits = 18446744073709551615

@@ -4,15 +4,13 @@ use mathlib.Core.Bool.{true}
 use mathlib.Core.List.{[], _∷_}
 use Rattle.books.specs.Tabulate.{tabulate}
 use Rattle.books.specs.Test.{isFair, isZero, gather, allZero, keepsRules}
-use Rattle.shapes.specs.declared.End.the-variants.{Back}
-use Rattle.shapes.specs.Ends.{nearOf, withNear}
 use Rattle.shapes.specs.Met.{isMetOf, markOf, unmet}
 use Rattle.shapes.specs.Walk.{walkOn, walkable}
 use Rattle.shapes.specs.Numbers.{decided}
 use Rattle.shapes.specs.Setup.{freshValue}
 use Rattle.shapes.specs.Faults.{fault, noFault, nothingMet, spareFault, idleFault}
 use Rattle.engines.specs.Check.{sizesFit, idlePath, gatherAll, nullSlotZero, poolFound, checkFound}
-use Rattle.engines.specs.Calls.{setupCall, lengthCall, pushCall}
+use Rattle.engines.specs.Calls.{setupCall, lengthCall}
 use Rattle.engines.specs.Trial.{trial}
 use Rattle.engines.specs.Places.{faultPools, manyPools, longList, faultsFound, lastHolds}
 
@@ -24,10 +22,10 @@ pub many-slots-tried : faultsFound manyPools ≡ true
 unfolding tabulate isFair isZero gather allZero keepsRules sizesFit decided freshValue setupCall nothingMet gatherAll spareFault idleFault nullSlotZero poolFound checkFound isMetOf markOf unmet walkOn walkable idlePath
 many-slots-tried = refl
 
--- its length is 259, and a push gets 6
-pub long-list-tried : (lengthCall trial (longList .links) (longList .values) (longList .book) 0 .length ≡ 259) × (pushCall trial (longList .links) (longList .values) (longList .book) 0 Back 5 .number ≡ 6)
-unfolding tabulate isFair isZero gather allZero keepsRules sizesFit decided freshValue setupCall nothingMet gatherAll spareFault idleFault nullSlotZero poolFound checkFound isMetOf markOf unmet walkOn walkable idlePath nearOf withNear lengthCall pushCall
-long-list-tried = (refl, refl)
+-- a list of all of them is sound, and its length is 259
+pub long-list-tried : lengthCall trial (longList .links) (longList .values) (longList .book) 0 ≡ record { refusal = record { number = 0 }; length = 259 }
+unfolding tabulate isFair isZero gather allZero keepsRules sizesFit decided freshValue setupCall nothingMet gatherAll spareFault idleFault nullSlotZero poolFound checkFound isMetOf markOf unmet walkOn walkable idlePath lengthCall
+long-list-tried = refl
 
 -- the last slot of 4,096: wiped or not, free or live
 pub last-slot-tried : (lastHolds 0 4094 (4095 ∷ []) ≡ noFault) × (lastHolds 9223372036854775808 4094 (4095 ∷ []) ≡ fault 14 0 4095) × (lastHolds 1 4094 (4095 ∷ []) ≡ fault 14 0 4095) × (lastHolds 1 4095 [] ≡ noFault)

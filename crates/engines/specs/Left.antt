@@ -1,11 +1,11 @@
--- What calls leave, over the engine `trial`: every cell and word after a setup, a push, a pop and a clear, the value that a pop hands out, the length, and the buffer of a read. Every bit of a value is tried; a value of a free slot is written as 0, and not as the wipe word.
+-- What calls leave, over the engine `trial`: every cell and word after a setup, a push, a pop and a clear, the value that a pop hands out, the length, and the buffer of a read. A value of all bits and of one is tried; a value of a free slot is written as 0, and not as the wipe word.
 use mathlib.Core.Bool.{Bool, true, _&&_}
 use mathlib.Core.List.{List, [], _∷_, _++_, map}
 use Prim.Native.Nat.{ℕ, _+_}
 use lib.Dec.{eqb}
 use lib.ListN.{set, replicate}
 use Rattle.books.specs.declared.Entry.{Entry}
-use Rattle.books.specs.Tried.{entry, none, wordBits, valueBits, allBits, numbersFrom, sameNumbers}
+use Rattle.books.specs.Tried.{entry, none, wordBits, edgeBits, allBits, numbersFrom, sameNumbers}
 use Rattle.shapes.specs.declared.End.{End}
 use Rattle.shapes.specs.declared.End.the-variants.{Front, Back}
 use Rattle.shapes.specs.Moves.{Move, check, askLength, pushBack, pushFront, popBack, popFront, readForward, readBackward, clear}
@@ -75,7 +75,7 @@ joinedAll (ts ∷ more) = ts ++ joinedAll more
 
 abbrev pub turns : List CallCase
 turns =
-    joinedAll (map throughBoth (0 ∷ allBits ∷ valueBits))
+    joinedAll (map throughBoth (0 ∷ allBits ∷ edgeBits))
     -- 01: "The slot's value becomes 0 and the slot becomes the free head, its link the old free head", at either end
     ++ turn trialP3 (popFront 0) 0 10 (pool (six 0 2 4 5 0 0) (six 0 0 1 0 2 0) (six 0 20 30 0 40 0) 2 (ends 1 4 0 0) 3)
     ∷ turn trialP3 (popBack 0) 0 40 (pool (six 0 2 0 1 5 0) (six 0 3 1 0 0 0) (six 0 20 30 10 0 0) 2 (ends 3 2 0 0) 4)
@@ -167,7 +167,7 @@ readsTried =
     ∷ readTurn trialP3 Front 1 (six 1 2 3 4 5 6) 7 8 0 (six 1 2 3 4 5 6)
     ∷ readTurn trialP3 Back 1 (six 1 2 3 4 5 6) 7 8 0 (six 1 2 3 4 5 6)
     ∷ readTurn trialP3 Front 2 (six 1 2 3 4 5 6) 0 4 0 (six 1 2 3 4 5 6)
-    ∷ map (λ b. readTurn (oneHeld b) Front 0 (7 ∷ []) 0 0 1 (b ∷ [])) valueBits
+    ∷ map (λ b. readTurn (oneHeld b) Front 0 (7 ∷ []) 0 0 1 (b ∷ [])) edgeBits
 
 abbrev pub readsPass : List ReadTurn → Bool
 readsPass [] = true

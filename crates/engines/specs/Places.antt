@@ -95,12 +95,10 @@ longList =
       book = record { places = 8; lists = 1; entries = entry 1 259 259 259 ∷ none 7; free = record { head = 0 } };
     }
 
--- they are sound; with one bit in the last slot, which is free, they are not, nor where the last slot is nowhere
+-- with one bit in the last slot, which is free, they are not sound, nor where the last slot is nowhere
 abbrev pub manyPools : List FaultCase
 manyPools =
-    record { first = fault 0 0 0; state = manySlots }
-    ∷ record { first = fault 14 0 259; state = record { links = manySlots .links; values = set (manySlots .values) 259 9223372036854775808; book = manySlots .book } }
-    ∷ record { first = fault 0 0 0; state = longList }
+    record { first = fault 14 0 259; state = record { links = manySlots .links; values = set (manySlots .values) 259 9223372036854775808; book = manySlots .book } }
     ∷ record { first = fault 13 0 259; state = record { links = twoWay (set (manySlots .links .next) 258 0) (manySlots .links .previous); values = manySlots .values; book = manySlots .book } }
     ∷ []
 

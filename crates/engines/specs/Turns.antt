@@ -5,7 +5,7 @@ use Prim.Native.Nat.{ℕ, suc, _+_}
 use lib.Dec.{eqb}
 use lib.ListN.{set, replicate}
 use Rattle.books.specs.declared.Entry.{Entry}
-use Rattle.books.specs.Tried.{entry, none, valueBits, allBits, numbersFrom}
+use Rattle.books.specs.Tried.{entry, none, edgeBits, allBits, numbersFrom}
 use Rattle.shapes.specs.Moves.{Move, check, askLength, pushBack, pushFront, popBack, popFront, readForward, readBackward, clear}
 use Rattle.engines.specs.Moves.{State, numberOf}
 use Rattle.engines.specs.Trial.{trial, pool}
@@ -176,7 +176,7 @@ readNumbers =
     -- a place so far on that the place of the last value would be a small number again
     ++ allGive 8 trialP3 (readsAt 0 5 allBits)
     ++ allGive 8 trialP3 (readsAt 1 5 allBits)
-    ++ joinedAll (map (λ b. allGive 8 trialP3 (readsAt 1 5 (5 + b)) ++ allGive 8 trialP3 (readsAt 0 5 (1 + b))) valueBits)
+    ++ joinedAll (map (λ b. allGive 8 trialP3 (readsAt 1 5 (5 + b)) ++ allGive 8 trialP3 (readsAt 0 5 (1 + b))) edgeBits)
 
 -- does each call give its number?
 abbrev pub numbersPass : List Asked → Bool
