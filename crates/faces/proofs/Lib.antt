@@ -3,3 +3,4 @@ pub mod Kept
 pub mod Exact
 pub mod OneResult
 pub mod Traces
+pub mod Tried

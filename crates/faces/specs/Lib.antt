@@ -4,3 +4,4 @@ pub mod Face
 pub mod Meaning
 pub mod Trace
 pub mod Version
+pub mod Tried

@@ -1,0 +1,49 @@
+-- The C functions on 01's pools, computed: what setup leaves and returns, each of the nine calls from P1 on, the ledger of that trace, and what is handed out.
+use mathlib.Core.Path.{_≡_, refl}
+use mathlib.Core.Bool.{true}
+use mathlib.Core.List.{[], _∷_}
+use lib.ListN.{take}
+use Rattle.books.specs.Tabulate.{tabulate}
+use Rattle.books.specs.Test.{isFair, isZero, gather, allZero, keepsRules}
+use Rattle.shapes.specs.Ends.{nearOf, withNear}
+use Rattle.shapes.specs.Faults.{nothingMet, spareFault, idleFault}
+use Rattle.shapes.specs.Setup.{freshValue}
+use Rattle.shapes.specs.Met.{isMetOf, markOf, unmet}
+use Rattle.shapes.specs.Walk.{walkOn, walkable}
+use Rattle.shapes.specs.Numbers.{decided}
+use Rattle.engines.specs.Reads.{isSlot, valuesAlong, clearOn}
+use Rattle.engines.specs.Check.{sizesFit, gatherAll, nullSlotZero, poolFound, checkFound, idlePath}
+use Rattle.engines.specs.Calls.{setupCall, checkCall, lengthCall, pushCall, popCall, clearCall, readCall}
+use Rattle.xor.specs.Steps.{isBeside, pushEmptyOf, pushBesideOf, pushOf, popOf}
+use Rattle.xor.specs.Engine.{freshLink}
+use Rattle.xor.specs.Slots.{takeOf, releaseOf}
+use Rattle.xor.specs.Slot.{inPool}
+use Rattle.faces.specs.Words.{kept}
+use Rattle.faces.specs.Version.{faceVersion}
+use Rattle.faces.specs.Tried.{cP1, cSetups, cSetupsPass, cTurns, cTurnsPass, notedFrom, notes, cAnswersPass}
+
+pub c-setups-tried : cSetupsPass cSetups ≡ true
+unfolding tabulate isFair isZero gather allZero keepsRules sizesFit decided freshLink freshValue setupCall kept
+c-setups-tried = refl
+
+pub c-turns-tried : cTurnsPass cP1 cTurns ≡ true
+unfolding tabulate isFair isZero gather allZero keepsRules nothingMet gatherAll spareFault idleFault nullSlotZero poolFound checkFound sizesFit decided isMetOf markOf unmet walkOn walkable idlePath kept nearOf withNear isBeside pushEmptyOf pushBesideOf pushOf popOf takeOf releaseOf inPool checkCall lengthCall pushCall popCall clearCall clearOn readCall isSlot valuesAlong
+c-turns-tried = refl
+
+-- after P7: list 0 had four pushes and one pop, list 1 two pushes; the refused ones are not noted
+pub c-ledger-tried : (notes (notedFrom (take 10 cTurns)) 0 4 1 (20 ∷ 30 ∷ 40 ∷ []) ≡ true) × (notes (notedFrom (take 10 cTurns)) 1 2 0 (60 ∷ 61 ∷ []) ≡ true)
+unfolding tabulate isFair isZero gather allZero keepsRules nothingMet gatherAll spareFault idleFault nullSlotZero poolFound checkFound sizesFit decided isMetOf markOf unmet walkOn walkable idlePath kept nearOf withNear isBeside pushEmptyOf pushBesideOf pushOf popOf takeOf releaseOf inPool checkCall lengthCall pushCall popCall clearCall clearOn readCall isSlot valuesAlong
+c-ledger-tried = (refl, refl)
+
+-- at the end: list 0 was cleared, and of list 1 the last was popped
+pub c-ledger-cleared : (notes (notedFrom cTurns) 0 0 0 [] ≡ true) × (notes (notedFrom cTurns) 1 2 1 (60 ∷ []) ≡ true)
+unfolding tabulate isFair isZero gather allZero keepsRules nothingMet gatherAll spareFault idleFault nullSlotZero poolFound checkFound sizesFit decided isMetOf markOf unmet walkOn walkable idlePath kept nearOf withNear isBeside pushEmptyOf pushBesideOf pushOf popOf takeOf releaseOf inPool checkCall lengthCall pushCall popCall clearCall clearOn readCall isSlot valuesAlong
+c-ledger-cleared = (refl, refl)
+
+pub c-answers-tried : cAnswersPass ≡ true
+unfolding tabulate isFair isZero gather allZero keepsRules nothingMet gatherAll spareFault idleFault nullSlotZero poolFound checkFound sizesFit decided isMetOf markOf unmet walkOn walkable idlePath kept nearOf withNear isBeside pushEmptyOf pushBesideOf pushOf popOf takeOf releaseOf inPool checkCall lengthCall pushCall popCall clearCall clearOn readCall isSlot valuesAlong
+c-answers-tried = refl
+
+-- include/flailreeve.h says the same number
+pub version-is : faceVersion ≡ 1
+version-is = refl

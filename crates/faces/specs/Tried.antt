@@ -1,0 +1,175 @@
+-- 01's pools P1 to P7 and what comes after them, as the C functions leave them: every cell, every word of the book, each number and answer, and the ledger of the trace. Refused calls stand between done ones.
+use mathlib.Core.Bool.{Bool, true, _&&_}
+use mathlib.Core.List.{List, [], _∷_, _++_}
+use Prim.Native.Nat.{ℕ}
+use lib.Dec.{eqb}
+use lib.ListN.{replicate}
+use Rattle.books.specs.Tried.{sameNumbers, allBits}
+use Rattle.shapes.specs.Moves.{Move, check, askLength, pushBack, pushFront, popBack, popFront, readForward, readBackward, clear}
+use Rattle.shapes.specs.Ledger.{Ledger, nothingNoted}
+use Rattle.faces.specs.Face.{Told, Shown, setupFace, lengthFace, popBackFace, popFrontFace, readForwardFace, readBackwardFace}
+use Rattle.faces.specs.Trace.{Memory, memoryChanged, returned, memoryAfter, notedFor}
+
+-- the words of a book with two lists, shares 2 and 1, limits 5 and 3: their heads and tails, and the free head
+abbrev twoWords : ℕ → ℕ → ℕ → ℕ → ℕ → List ℕ
+twoWords head₀ tail₀ head₁ tail₁ free = (2 ∷ head₀ ∷ tail₀ ∷ 2 ∷ 5 ∷ head₁ ∷ tail₁ ∷ 1 ∷ 3 ∷ []) ++ replicate 24 0 ++ free ∷ []
+
+abbrev six : ℕ → ℕ → ℕ → ℕ → ℕ → ℕ → List ℕ
+six a b c d e f = a ∷ b ∷ c ∷ d ∷ e ∷ f ∷ []
+
+abbrev memory : List ℕ → List ℕ → List ℕ → Memory
+memory links values words = record { links = links; values = values; words = words }
+
+abbrev sameMemory : Memory → Memory → Bool
+sameMemory m k = sameNumbers (m .links) (k .links) && (sameNumbers (m .values) (k .values) && sameNumbers (m .words) (k .words))
+
+-- ---- setup
+
+-- P1: links 0,2,3,4,5,0 and free head 1
+abbrev pub cP1 : Memory
+cP1 = memory (six 0 2 3 4 5 0) (six 0 0 0 0 0 0) (twoWords 0 0 0 0 1)
+
+-- a setup on memory that holds something, with the number that it returns and what it leaves
+pub record CSetup : Type 0 where
+  pub before : Memory
+  pub lists : ℕ
+  pub shares : List ℕ
+  pub number : ℕ
+  pub left : Memory
+
+abbrev cSetup : Memory → ℕ → List ℕ → ℕ → Memory → CSetup
+cSetup before lists shares number left = record { before = before; lists = lists; shares = shares; number = number; left = left }
+
+-- cells and words that hold anything
+abbrev held : ℕ → Memory
+held words = memory (replicate 6 9) (replicate 6 allBits) (replicate words 9)
+
+abbrev uneven : Memory
+uneven = memory (replicate 5 9) (replicate 6 allBits) (replicate 34 9)
+
+abbrev pub cSetups : List CSetup
+cSetups =
+    -- done, on words of any number: all 34 are stored
+    cSetup (held 34) 2 (2 ∷ 1 ∷ replicate 6 0) 0 cP1
+    ∷ cSetup (held 0) 2 (2 ∷ 1 ∷ replicate 6 0) 0 cP1
+    ∷ cSetup (held 40) 2 (2 ∷ 1 ∷ replicate 6 0) 0 cP1
+    -- refused by 2 and by 1: the lent words stay, and not the all-zero book
+    ∷ cSetup (held 34) 0 (2 ∷ 1 ∷ replicate 6 0) 2 (held 34)
+    ∷ cSetup (held 34) 2 (2 ∷ 1 ∷ 1 ∷ replicate 5 0) 2 (held 34)
+    ∷ cSetup uneven 2 (2 ∷ 1 ∷ replicate 6 0) 1 uneven
+    ∷ []
+
+abbrev pub cSetupsPass : List CSetup → Bool
+cSetupsPass [] = true
+cSetupsPass (c ∷ cs) =
+    let r = setupFace (c .before .links) (c .before .values) (c .lists) (c .shares) (5 ∷ 3 ∷ replicate 6 0) (c .before .words) in
+    eqb (r .answer .number) (c .number) && (sameMemory (memoryChanged r) (c .left) && cSetupsPass cs)
+
+-- ---- the nine calls, one after the other, from P1 on
+
+pub record CTurn : Type 0 where
+  pub move : Move
+  pub number : ℕ
+  pub left : Memory
+
+abbrev cTurn : Move → ℕ → Memory → CTurn
+cTurn move number left = record { move = move; number = number; left = left }
+
+abbrev cP2 : Memory
+cP2 = memory (six 0 1 1 1 5 0) (six 0 20 30 10 0 0) (twoWords 3 2 0 0 4)
+
+abbrev pub cP3 : Memory
+cP3 = memory (six 0 1 5 1 2 0) (six 0 20 30 10 40 0) (twoWords 3 4 0 0 5)
+
+abbrev cP5 : Memory
+cP5 = memory (six 0 1 5 1 2 0) (six 0 20 30 10 40 60) (twoWords 3 4 5 5 0)
+
+abbrev cP6 : Memory
+cP6 = memory (six 0 2 5 0 2 0) (six 0 20 30 0 40 60) (twoWords 1 4 5 5 3)
+
+abbrev cP7 : Memory
+cP7 = memory (six 0 2 5 5 2 3) (six 0 20 30 61 40 60) (twoWords 1 4 5 3 0)
+
+abbrev cleared : Memory
+cleared = memory (six 0 0 1 5 2 3) (six 0 0 0 61 0 60) (twoWords 0 0 5 3 4)
+
+abbrev cPopped : Memory
+cPopped = memory (six 0 0 1 4 2 0) (six 0 0 0 0 0 60) (twoWords 0 0 5 5 3)
+
+abbrev pub cTurns : List CTurn
+cTurns =
+    cTurn (pushBack 0 20) 0 (memory (six 0 0 3 4 5 0) (six 0 20 0 0 0 0) (twoWords 1 1 0 0 2))
+    ∷ cTurn (pushBack 0 30) 0 (memory (six 0 2 1 4 5 0) (six 0 20 30 0 0 0) (twoWords 1 2 0 0 3))
+    ∷ cTurn (pushFront 0 10) 0 cP2
+    ∷ cTurn (pushBack 0 40) 0 cP3
+    -- P4: one slot is free, and list 1 lacks one
+    ∷ cTurn (pushBack 0 50) 7 cP3
+    ∷ cTurn (pushFront 0 50) 7 cP3
+    ∷ cTurn (pushBack 1 60) 0 cP5
+    ∷ cTurn (pushBack 1 61) 7 cP5
+    ∷ cTurn (popFront 0) 0 cP6
+    ∷ cTurn (pushBack 1 61) 0 cP7
+    -- what changes nothing, and list numbers that there are not
+    ∷ cTurn check 0 cP7
+    ∷ cTurn (askLength 1) 0 cP7
+    ∷ cTurn (askLength 2) 4 cP7
+    ∷ cTurn (popBack 2) 4 cP7
+    ∷ cTurn (popFront 65536) 4 cP7
+    ∷ cTurn (pushFront 2 1) 4 cP7
+    ∷ cTurn (clear 7) 4 cP7
+    ∷ cTurn (readForward 0 (7 ∷ 7 ∷ []) 0) 8 cP7
+    ∷ cTurn (readBackward 0 (7 ∷ 7 ∷ 7 ∷ []) 0) 0 cP7
+    -- Cancel, on a list with three slots, on the empty one, and then pops
+    ∷ cTurn (clear 0) 0 cleared
+    ∷ cTurn (clear 0) 0 cleared
+    ∷ cTurn (popBack 0) 5 cleared
+    ∷ cTurn (popFront 0) 5 cleared
+    ∷ cTurn (popBack 1) 0 cPopped
+    ∷ []
+
+-- does each return its number and leave its memory?
+abbrev pub cTurnsPass : Memory → List CTurn → Bool
+cTurnsPass m [] = true
+cTurnsPass m (c ∷ cs) = eqb (returned m (c .move)) (c .number) && (sameMemory (memoryAfter m (c .move)) (c .left) && cTurnsPass (memoryAfter m (c .move)) cs)
+
+-- ---- the ledger of that trace
+
+-- what the trace has noted after the first of the calls, n of them
+abbrev notedAlong : Memory → Ledger → List CTurn → Ledger
+notedAlong m ledger [] = ledger
+notedAlong m ledger (c ∷ cs) = notedAlong (memoryAfter m (c .move)) (notedFor m (c .move) ledger) cs
+
+abbrev pub notedFrom : List CTurn → Ledger
+notedFrom cs = notedAlong cP1 nothingNoted cs
+
+abbrev pub notes : Ledger → ℕ → ℕ → ℕ → List ℕ → Bool
+notes ledger l pushes pops vs = eqb (ledger .pushes l) pushes && (eqb (ledger .pops l) pops && sameNumbers (ledger .held l) vs)
+
+-- ---- what the calls hand out, at P7 and after the clear
+
+abbrev toldIs : Told → ℕ → ℕ → Bool
+toldIs r number length = eqb (r .number) number && eqb (r .length) length
+
+abbrev shownIs : Shown → ℕ → ℕ → List ℕ → Bool
+shownIs r number count buffer = eqb (r .number) number && (eqb (r .count) count && sameNumbers (r .buffer) buffer)
+
+abbrev five : List ℕ
+five = 7 ∷ 7 ∷ 7 ∷ 7 ∷ 7 ∷ []
+
+abbrev pub cAnswersPass : Bool
+cAnswersPass =
+    let m = cP7 in
+    toldIs (lengthFace (m .links) (m .values) (m .words) 0) 0 3
+    && (toldIs (lengthFace (m .links) (m .values) (m .words) 1) 0 2
+    && (toldIs (lengthFace (m .links) (m .values) (m .words) 2) 4 0
+    && (eqb (popFrontFace (m .links) (m .values) (m .words) 0 .answer .value) 20
+    && (eqb (popBackFace (m .links) (m .values) (m .words) 0 .answer .value) 40
+    && (eqb (popBackFace (m .links) (m .values) (m .words) 1 .answer .value) 61
+    && (eqb (popBackFace (m .links) (m .values) (m .words) 2 .answer .value) 0
+    && (eqb (popFrontFace (cleared .links) (cleared .values) (cleared .words) 0 .answer .value) 0
+    && (shownIs (readForwardFace (m .links) (m .values) (m .words) 0 five 1) 0 3 (7 ∷ 20 ∷ 30 ∷ 40 ∷ 7 ∷ [])
+    && (shownIs (readBackwardFace (m .links) (m .values) (m .words) 0 five 2) 0 3 (7 ∷ 7 ∷ 40 ∷ 30 ∷ 20 ∷ [])
+    && (shownIs (readForwardFace (m .links) (m .values) (m .words) 0 five 3) 8 0 five
+    && (shownIs (readBackwardFace (m .links) (m .values) (m .words) 2 five 0) 4 0 five
+    && (shownIs (readForwardFace (cleared .links) (cleared .values) (cleared .words) 0 five 5) 0 0 five
+    && shownIs (readForwardFace (cleared .links) (cleared .values) (cleared .words) 0 five 6) 8 0 five))))))))))))
