@@ -2,3 +2,4 @@
 pub mod Cases
 pub mod Reach
 pub mod Unmarked
+pub mod Many

@@ -1,31 +1,17 @@
--- The first fault of a pool is found at its place, and pools of many slots are told apart: the pools of `Places`, computed.
+-- The first fault of a pool is found at its place: the pools of `Places`, computed.
 use mathlib.Core.Path.{_≡_, refl}
 use mathlib.Core.Bool.{true}
 use mathlib.Core.List.{[], _∷_}
-use Rattle.books.specs.Tabulate.{tabulate}
 use Rattle.books.specs.Test.{isFair, isZero, gather, allZero, keepsRules}
 use Rattle.shapes.specs.Met.{isMetOf, markOf, unmet}
 use Rattle.shapes.specs.Walk.{walkOn, walkable}
-use Rattle.shapes.specs.Numbers.{decided}
-use Rattle.shapes.specs.Setup.{freshValue}
 use Rattle.shapes.specs.Faults.{fault, noFault, nothingMet, spareFault, idleFault}
-use Rattle.engines.specs.Check.{sizesFit, idlePath, gatherAll, nullSlotZero, poolFound, checkFound}
-use Rattle.engines.specs.Calls.{setupCall, lengthCall}
-use Rattle.engines.specs.Trial.{trial}
-use Rattle.engines.specs.Places.{faultPools, manyPools, longList, faultsFound, lastHolds}
+use Rattle.engines.specs.Check.{idlePath, gatherAll, nullSlotZero, poolFound, checkFound}
+use Rattle.engines.specs.Places.{faultPools, faultsFound, lastHolds}
 
 pub first-faults-tried : faultsFound faultPools ≡ true
 unfolding isFair isZero gather allZero keepsRules nothingMet gatherAll spareFault idleFault nullSlotZero poolFound checkFound isMetOf markOf unmet walkOn walkable idlePath
 first-faults-tried = refl
-
-pub many-slots-tried : faultsFound manyPools ≡ true
-unfolding tabulate isFair isZero gather allZero keepsRules sizesFit decided freshValue setupCall nothingMet gatherAll spareFault idleFault nullSlotZero poolFound checkFound isMetOf markOf unmet walkOn walkable idlePath
-many-slots-tried = refl
-
--- a list of all of them is sound, and its length is 259
-pub long-list-tried : lengthCall trial (longList .links) (longList .values) (longList .book) 0 ≡ record { refusal = record { number = 0 }; length = 259 }
-unfolding tabulate isFair isZero gather allZero keepsRules sizesFit decided freshValue setupCall nothingMet gatherAll spareFault idleFault nullSlotZero poolFound checkFound isMetOf markOf unmet walkOn walkable idlePath lengthCall
-long-list-tried = refl
 
 -- the last slot of 4,096: wiped or not, free or live
 pub last-slot-tried : (lastHolds 0 4094 (4095 ∷ []) ≡ noFault) × (lastHolds 9223372036854775808 4094 (4095 ∷ []) ≡ fault 14 0 4095) × (lastHolds 1 4094 (4095 ∷ []) ≡ fault 14 0 4095) × (lastHolds 1 4095 [] ≡ noFault)

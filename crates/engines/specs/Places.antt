@@ -1,17 +1,16 @@
--- Pools over the engine `trial` with their first fault: the rule of 02 b), the list and the place. And pools of many slots.
+-- Pools over the engine `trial` with their first fault: the rule of 02 b), the list and the place. Pools of many slots stand in crate cases, since they take long to compute.
 use mathlib.Core.Bool.{Bool, true, _&&_}
 use mathlib.Core.List.{List, [], _∷_}
 use Prim.Native.Nat.{ℕ}
 use lib.Dec.{eqb}
 use lib.ListN.{set, replicate}
 use Rattle.books.specs.declared.Entry.{Entry}
-use Rattle.books.specs.Tried.{allBits, numbersFrom, entry, none}
+use Rattle.books.specs.Tried.{entry, none}
 use Rattle.shapes.specs.declared.Fault.{Fault}
 use Rattle.shapes.specs.Faults.{fault, noFault, round}
 use Rattle.engines.specs.Check.{idleFound, checkFound}
-use Rattle.engines.specs.Calls.{setupCall}
-use Rattle.engines.specs.Moves.{State, left}
-use Rattle.engines.specs.Trial.{trial, twoWay, pool}
+use Rattle.engines.specs.Moves.{State}
+use Rattle.engines.specs.Trial.{trial, pool}
 
 -- a pool with its book, and its first fault
 pub record FaultCase : Type 0 where
@@ -78,28 +77,6 @@ faultPools =
     ∷ faultCase 12 0 0 (replicate 4096 0) (replicate 4096 0) (replicate 4096 0) 1 (entry 0 0 0 4095 ∷ none 7) 4096
     ∷ faultCase 9 0 0 (replicate 4096 0) (replicate 4096 0) (replicate 4096 0) 1 (entry 0 0 0 4096 ∷ none 7) 1
     ∷ faultCase 9 0 0 (replicate 4096 0) (replicate 4096 0) (replicate 4096 0) 1 (entry 0 0 65535 65535 ∷ none 7) 1
-    ∷ []
-
--- ---- more slots than a byte counts
-
--- 260 slots after a setup of one list whose share and limit are N - 1
-abbrev manySlots : State trial
-manySlots = left (setupCall trial 8 (twoWay (replicate 260 9) (replicate 260 9)) (replicate 260 9) 1 (259 ∷ replicate 7 0) (259 ∷ replicate 7 0))
-
--- the same slots as one list's, which is at its limit then
-abbrev pub longList : State trial
-longList =
-    record {
-      links = twoWay (manySlots .links .next) (0 ∷ numbersFrom 0 259);
-      values = 0 ∷ replicate 259 allBits;
-      book = record { places = 8; lists = 1; entries = entry 1 259 259 259 ∷ none 7; free = record { head = 0 } };
-    }
-
--- with one bit in the last slot, which is free, they are not sound, nor where the last slot is nowhere
-abbrev pub manyPools : List FaultCase
-manyPools =
-    record { first = fault 14 0 259; state = record { links = manySlots .links; values = set (manySlots .values) 259 9223372036854775808; book = manySlots .book } }
-    ∷ record { first = fault 13 0 259; state = record { links = twoWay (set (manySlots .links .next) 258 0) (manySlots .links .previous); values = manySlots .values; book = manySlots .book } }
     ∷ []
 
 -- does the check find each at its place?

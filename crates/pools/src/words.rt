@@ -18,7 +18,8 @@ ghost use Rattle.pools.specs.Kept.{withEnds};
 pub fn lists_of(words: &[u16; 34]) -> u16
     ensures { λ r. ⌜ r ≡ bookFrom (now (words .entry)) .lists ⌝ }
 {
-    words[0]
+    let lists = words[0];
+    lists
 }
 
 // Is there such a list, and a place for it? Once it is known, no read or store of the list's words asks for its place again.
