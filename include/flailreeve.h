@@ -40,11 +40,12 @@
  * memory holds, and wipes every slot.
  *
  * WHAT IS LEFT TO THE FIRMWARE TO WIPE. The value that it hands to a push, in its own variables and, it being the seventh
- * argument, on its own stack; a value that a pop hands out; the copies that a read writes; and registers: after a done push or
- * pop one register that a call may change still holds the value (docs/SPEED.md says which), until something else is put
- * there. In the dead stack below the caller no call, done or refused, leaves a copy of a block that it was lent or handed.
- * But a call saves there the registers that it must keep for its caller (rbx, rbp, r12 to r15), so a block that the caller
- * itself has in one of them is left there too. This is measured on the compiled archive, at every byte, and not proved. */
+ * argument, on its own stack; a value that a pop hands out; the copies that a read writes; and registers: after a done pop one
+ * register that a call may change still holds the value, rsi, until something else is put there, and after the other done
+ * calls none does. In the dead stack below the caller no call, done or refused, leaves a copy of a block that it was lent or
+ * handed. But a call saves there the registers that it must keep for its caller (rbx, rbp, r12 to r15), so a block that the
+ * caller itself has in one of them is left there too. This is measured on the compiled archive, at every byte, and not
+ * proved. */
 #ifndef FLAILREEVE_H
 #define FLAILREEVE_H
 
