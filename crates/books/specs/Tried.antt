@@ -105,6 +105,10 @@ ruledTried =
     ∷ ruled 4096 8 8 (replicate 8 (entry 0 0 511 4095)) true
     ∷ ruled 4096 8 8 (replicate 8 (entry 0 0 512 4095)) false
     ∷ ruled 4096 8 8 (replicate 7 (entry 0 0 512 4095) ++ entry 0 0 511 4095 ∷ []) true
+    -- shares that would be a small number again in a word of 12, 13 or 14 bits
+    ∷ ruled 4096 8 2 (replicate 2 (entry 0 0 4095 4095) ++ none 6) false
+    ∷ ruled 4096 8 3 (replicate 3 (entry 0 0 4095 4095) ++ none 5) false
+    ∷ ruled 4096 8 5 (replicate 5 (entry 0 0 4095 4095) ++ none 3) false
     -- a list's ends are no matter of these rules
     ∷ ruled 6 8 1 (entry 65535 65535 0 5 ∷ none 7) true
     -- every list: its share and its limit

@@ -3,16 +3,18 @@ use mathlib.Core.Path.{_≡_, refl}
 use mathlib.Core.Bool.{true}
 use Rattle.books.specs.Tabulate.{tabulate}
 use Rattle.books.specs.Test.{isFair, isZero, gather, allZero, keepsRules}
+use Rattle.shapes.specs.Ends.{nearOf, withNear}
 use Rattle.shapes.specs.Met.{isMetOf, markOf, unmet}
 use Rattle.shapes.specs.Walk.{walkOn, walkable}
 use Rattle.shapes.specs.Numbers.{decided}
 use Rattle.shapes.specs.Setup.{freshValue}
 use Rattle.shapes.specs.Faults.{nothingMet, spareFault, idleFault}
 use Rattle.engines.specs.Check.{sizesFit, idlePath, gatherAll, nullSlotZero, poolFound, checkFound}
-use Rattle.engines.specs.Calls.{setupCall, lengthCall}
+use Rattle.engines.specs.Reads.{isSlot, valuesAlong, clearOn}
+use Rattle.engines.specs.Calls.{setupCall, lengthCall, pushCall, popCall, clearCall, readCall}
 use Rattle.engines.specs.Trial.{trial}
 use Rattle.engines.specs.Places.{faultsFound}
-use Rattle.cases.specs.Many.{manyPools, longList}
+use Rattle.cases.specs.Many.{manyPools, longList, longPasses}
 
 pub many-slots-tried : faultsFound manyPools ≡ true
 unfolding tabulate isFair isZero gather allZero keepsRules sizesFit decided freshValue setupCall nothingMet gatherAll spareFault idleFault nullSlotZero poolFound checkFound isMetOf markOf unmet walkOn walkable idlePath
@@ -22,3 +24,8 @@ many-slots-tried = refl
 pub long-list-tried : lengthCall trial (longList .links) (longList .values) (longList .book) 0 ≡ record { refusal = record { number = 0 }; length = 259 }
 unfolding tabulate isFair isZero gather allZero keepsRules sizesFit decided freshValue setupCall nothingMet gatherAll spareFault idleFault nullSlotZero poolFound checkFound isMetOf markOf unmet walkOn walkable idlePath lengthCall
 long-list-tried = refl
+
+-- it is read from either end, popped, pushed and cleared whole
+pub long-calls-tried : longPasses ≡ true
+unfolding tabulate isFair isZero gather allZero keepsRules nearOf withNear sizesFit decided freshValue setupCall nothingMet gatherAll spareFault idleFault nullSlotZero poolFound checkFound isMetOf markOf unmet walkOn walkable idlePath isSlot valuesAlong clearOn pushCall popCall clearCall readCall
+long-calls-tried = refl

@@ -30,13 +30,13 @@ every-number-shown = refl
 
 -- ---- traces of two lists, with the shares and limits of 01's pools
 
--- four pushes on list 0, as in P3: one slot is free, and list 1 lacks one
+-- four pushes on list 0, as in P3: one slot is free, and list 1 lacks one. A fifth is refused, and not noted
 pub seven-reached : (p : Pool) × (d : Ledger) × twoListTrace p d × (numberGiven p (pushBack 0 50) ≡ 7) × (numberGiven p (pushBack 1 60) ≡ 0) × (d .pushes 0 ≡ 4)
 unfolding mayGive lengthCall clearCall readCall clearOn isSlot valuesAlong tabulate isFair isZero gather allZero keepsRules nearOf withNear isBeside pushEmptyOf pushBesideOf pushOf popOf nothingMet gatherAll spareFault idleFault nullSlotZero poolFound checkFound sizesFit decided checkCall pushCall popCall freshLink freshValue setupCall isMetOf markOf unmet takeOf releaseOf inPool walkOn walkable idlePath
 seven-reached = (
   _,
   _,
-  called (called (called (called (begun (replicate 6 9) (replicate 6 7) refl) (pushBack 0 20)) (pushBack 0 30)) (pushFront 0 10)) (pushBack 0 40),
+  called (called (called (called (called (begun (replicate 6 9) (replicate 6 7) refl) (pushBack 0 20)) (pushBack 0 30)) (pushFront 0 10)) (pushBack 0 40)) (pushBack 0 50),
   refl,
   refl,
   refl,

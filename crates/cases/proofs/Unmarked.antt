@@ -11,7 +11,7 @@ use Rattle.shapes.specs.Walk.{walkOn, walkable}
 use Rattle.shapes.specs.Numbers.{decided}
 use Rattle.engines.specs.Reads.{isSlot, valuesAlong, clearOn}
 use Rattle.engines.specs.Check.{sizesFit, gatherAll, nullSlotZero, poolFound, checkFound, idlePath}
-use Rattle.engines.specs.Calls.{setupCall, pushCall, popCall, clearCall, readCall}
+use Rattle.engines.specs.Calls.{setupCall, lengthCall, pushCall, popCall, clearCall, readCall}
 use Rattle.xor.specs.Steps.{isBeside, pushEmptyOf, pushBesideOf, pushOf, popOf}
 use Rattle.xor.specs.Engine.{freshLink}
 use Rattle.xor.specs.Slots.{takeOf, releaseOf}
@@ -33,5 +33,5 @@ readings-pass = refl
 
 -- a free slot's value is 0 after a setup, a pop and a clear, whatever bits it had
 pub unmarked-pass : allPass notMarked ≡ true
-unfolding tabulate isFair isZero gather allZero keepsRules nearOf withNear isBeside pushEmptyOf pushBesideOf pushOf popOf nothingMet gatherAll spareFault idleFault nullSlotZero poolFound checkFound sizesFit decided pushCall popCall clearCall clearOn freshLink freshValue setupCall isMetOf markOf unmet takeOf releaseOf inPool walkOn walkable idlePath
+unfolding tabulate isFair isZero gather allZero keepsRules nearOf withNear isBeside pushEmptyOf pushBesideOf pushOf popOf nothingMet gatherAll spareFault idleFault nullSlotZero poolFound checkFound sizesFit decided lengthCall readCall pushCall popCall clearCall clearOn freshLink freshValue setupCall isMetOf markOf unmet takeOf releaseOf inPool walkOn walkable idlePath
 unmarked-pass = refl

@@ -1,11 +1,17 @@
 -- Pools with more slots than a byte counts, over the engine `trial` of crate engines: sound, and with a fault in the last slot.
-use mathlib.Core.List.{List, [], _∷_}
+use mathlib.Core.Bool.{Bool, _&&_}
+use mathlib.Core.List.{List, [], _∷_, _++_, reverse}
+use Prim.Native.Nat.{ℕ}
+use lib.Dec.{eqb}
 use lib.ListN.{set, replicate}
-use Rattle.books.specs.Tried.{allBits, numbersFrom, entry, none}
+use Rattle.books.specs.Tried.{allBits, numbersFrom, sameNumbers, entry, none}
+use Rattle.shapes.specs.declared.End.{End}
+use Rattle.shapes.specs.declared.End.the-variants.{Front, Back}
+use Rattle.shapes.specs.Moves.{popBack, pushBack, clear}
 use Rattle.shapes.specs.Faults.{fault}
-use Rattle.engines.specs.Calls.{setupCall}
-use Rattle.engines.specs.Moves.{State, left}
-use Rattle.engines.specs.Trial.{trial, twoWay}
+use Rattle.engines.specs.Calls.{setupCall, readCall}
+use Rattle.engines.specs.Moves.{State, left, after}
+use Rattle.engines.specs.Trial.{trial, twoWay, sameState}
 use Rattle.engines.specs.Places.{FaultCase}
 
 -- 260 slots after a setup of one list whose share and limit are N - 1
@@ -20,6 +26,37 @@ longList =
       values = 0 ∷ replicate 259 allBits;
       book = record { places = 8; lists = 1; entries = entry 1 259 259 259 ∷ none 7; free = record { head = 0 } };
     }
+
+-- the values from 1 on in the slots from 1 on; and without the last one, whose slot is free
+abbrev longHeld : State trial
+longHeld = record { links = longList .links; values = numbersFrom 0 260; book = longList .book }
+
+abbrev lastGone : State trial
+lastGone =
+    record {
+      links = twoWay (set (longList .links .next) 258 0) (set (longList .links .previous) 259 0);
+      values = set (longHeld .values) 259 0;
+      book = record { places = 8; lists = 1; entries = entry 1 258 259 259 ∷ none 7; free = record { head = 259 } };
+    }
+
+-- all are read, from either end, and cleared; the last is popped, and pushed again
+abbrev readWhole : End → List ℕ → Bool
+readWhole end vs =
+    let r = readCall trial (longHeld .links) (longHeld .values) (longHeld .book) 0 end (replicate 261 7) 1 in
+    eqb (r .answer .count) 259 && sameNumbers (r .buffer) (7 ∷ vs ++ 7 ∷ [])
+
+abbrev pub longPasses : Bool
+longPasses =
+    readWhole Front (numbersFrom 1 259)
+    && (readWhole Back (reverse (numbersFrom 1 259))
+    && (sameState (after trial longHeld (popBack 0)) lastGone
+    && (sameState (after trial lastGone (pushBack 0 259)) longHeld
+    && sameState (after trial longHeld (clear 0))
+    (record {
+      links = twoWay (0 ∷ numbersFrom 0 259) (replicate 260 0);
+      values = replicate 260 0;
+      book = record { places = 8; lists = 1; entries = entry 0 0 259 259 ∷ none 7; free = record { head = 259 } };
+    }))))
 
 -- with one bit in the last slot, which is free, they are not sound, nor where the last slot is nowhere
 abbrev pub manyPools : List FaultCase

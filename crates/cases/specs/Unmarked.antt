@@ -9,7 +9,7 @@ use Rattle.books.specs.Book.{zeroBook}
 use Rattle.books.specs.Tried.{wordBits, valueBits, allBits, numbersFrom, sameNumbers, entry, none}
 use Rattle.shapes.specs.declared.End.{End}
 use Rattle.shapes.specs.declared.End.the-variants.{Front, Back}
-use Rattle.shapes.specs.Moves.{pushBack, pushFront, popBack, popFront, clear}
+use Rattle.shapes.specs.Moves.{askLength, pushBack, pushFront, popBack, popFront, readForward, readBackward, clear}
 use Rattle.shapes.specs.Tests.{ReadLeft}
 use Rattle.xor.specs.Ten.{setupOf, readForwardOf, readBackwardOf}
 use Rattle.xor.specs.Moves.{Pool, poolLeft}
@@ -149,13 +149,24 @@ abbrev joinedCases : List (List Case) → List Case
 joinedCases [] = []
 joinedCases (cs ∷ more) = cs ++ joinedCases more
 
+-- 4: "list number not below L", whatever bits the number has: each of the eight calls on P3, which stays as it is
+abbrev noSuch : ℕ → Case
+noSuch l =
+    record {
+      begin = with p3;
+      turns =
+          map (λ m. record { move = m; number = 4; value = 0; left = p3 })
+          (askLength l ∷ pushBack l 5 ∷ pushFront l 5 ∷ popBack l ∷ popFront l ∷ readForward l (six 1 2 3 4 5 6) 0 ∷ readBackward l (six 1 2 3 4 5 6) 0 ∷ clear l ∷ []);
+    }
+
 abbrev pub notMarked : List Case
 notMarked =
     -- "Limit 0: every push gives 6"
     record { begin = with limitNone; turns = record { move = pushBack 0 5; number = 6; value = 0; left = limitNone } ∷ record { move = pushFront 0 5; number = 6; value = 0; left = limitNone } ∷ [] }
     -- setup wipes every slot: "It ignores and overwrites what was there"
     ∷ record { begin = bySetup (replicate 6 65535) (replicate 6 allBits) 2 (pair 2 1) (pair 5 3) p1; turns = [] }
-    ∷ joinedCases (map wipes (allBits ∷ valueBits))
+    ∷ map noSuch (2 ∷ 3 ∷ 4 ∷ 8 ∷ 9 ∷ 16 ∷ 256 ∷ 257 ∷ 4096 ∷ 32768 ∷ 65535 ∷ [])
+    ++ joinedCases (map wipes (allBits ∷ valueBits))
 
 -- a refused setup: the all-zero book, and the slices as they were
 abbrev pub refusedStart : Bool

@@ -114,6 +114,15 @@ module _ {E : Engine} (L : Lawful E) {links : E .Links} {values : List ℕ} {b :
         go (roomy n u (inl x)) = omega arith
         go (roomy n u (inr x)) = omega arith
 
+    -- no other number
+    pub push-else : number ≢ 6 → number ≢ 7 → number ≡ 0
+    push-else d k = go way
+      where
+        go : Way many ((entryAt (b .entries) l) .limit) ((entryAt (b .entries) l) .share) (length (s .idle)) lacking number → number ≡ 0
+        go (full n f) = absurd (d n)
+        go (tight n u x y) = absurd (k n)
+        go (roomy n u x) = n
+
     -- 0, where neither applies
     pub push-zero : number ≡ 0 ↔ Room (take (b .lists) (b .entries)) s l
     push-zero = go way

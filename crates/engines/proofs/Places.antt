@@ -2,12 +2,13 @@
 use mathlib.Core.Path.{_≡_, refl}
 use mathlib.Core.Bool.{true}
 use mathlib.Core.List.{[], _∷_}
+use Rattle.books.specs.Tried.{numbersFrom}
 use Rattle.books.specs.Test.{isFair, isZero, gather, allZero, keepsRules}
 use Rattle.shapes.specs.Met.{isMetOf, markOf, unmet}
 use Rattle.shapes.specs.Walk.{walkOn, walkable}
 use Rattle.shapes.specs.Faults.{fault, noFault, nothingMet, spareFault, idleFault}
 use Rattle.engines.specs.Check.{idlePath, gatherAll, nullSlotZero, poolFound, checkFound}
-use Rattle.engines.specs.Places.{faultPools, faultsFound, lastHolds}
+use Rattle.engines.specs.Places.{faultPools, faultsFound, lastHolds, largestFound}
 
 pub first-faults-tried : faultsFound faultPools ≡ true
 unfolding isFair isZero gather allZero keepsRules nothingMet gatherAll spareFault idleFault nullSlotZero poolFound checkFound isMetOf markOf unmet walkOn walkable idlePath
@@ -17,3 +18,7 @@ first-faults-tried = refl
 pub last-slot-tried : (lastHolds 0 4094 (4095 ∷ []) ≡ noFault) × (lastHolds 9223372036854775808 4094 (4095 ∷ []) ≡ fault 14 0 4095) × (lastHolds 1 4094 (4095 ∷ []) ≡ fault 14 0 4095) × (lastHolds 1 4095 [] ≡ noFault)
 unfolding spareFault idleFault isMetOf
 last-slot-tried = (refl, refl, refl, refl)
+
+pub largest-found-tried : (largestFound 0 4095 (numbersFrom 1 4095) ≡ 0 ∷ 0 ∷ 4095 ∷ 4095 ∷ []) × (largestFound 4095 0 [] ≡ 0 ∷ 4095 ∷ 0 ∷ 0 ∷ [])
+unfolding spareFault idleFault isMetOf
+largest-found-tried = (refl, refl)

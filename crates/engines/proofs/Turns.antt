@@ -13,8 +13,9 @@ use Rattle.shapes.specs.Faults.{nothingMet, spareFault, idleFault}
 use Rattle.engines.specs.Check.{sizesFit, idlePath, gatherAll, nullSlotZero, poolFound, checkFound}
 use Rattle.engines.specs.Reads.{isSlot, valuesAlong, clearOn}
 use Rattle.engines.specs.Calls.{setupCall, checkCall, lengthCall, pushCall, popCall, clearCall, readCall}
-use Rattle.engines.specs.Turns.{ones, listNumbers, pushNumbers, everyPush, readNumbers, numbersPass}
-use Rattle.engines.specs.Left.{turns, callsPass, readsTried, readsPass, lengths, eightLengths, setups, setupsPass, sizeGives}
+use Rattle.engines.specs.Trace.{othersLack}
+use Rattle.engines.specs.Turns.{trialP3, ones, listNumbers, pushNumbers, everyPush, readNumbers, numbersPass}
+use Rattle.engines.specs.Left.{turns, callsPass, readsTried, readsPass, lengths, eightLengths, refusedLengths, setups, setupsPass, sizeGives}
 
 pub ones-tried : numbersPass ones ≡ true
 unfolding isFair isZero gather allZero keepsRules nearOf withNear isMetOf markOf unmet walkOn walkable decided nothingMet spareFault idleFault sizesFit idlePath gatherAll nullSlotZero poolFound checkFound isSlot valuesAlong clearOn checkCall lengthCall pushCall popCall clearCall readCall
@@ -47,9 +48,9 @@ pub reads-tried : readsPass readsTried ≡ true
 unfolding isFair isZero gather allZero keepsRules nearOf withNear isMetOf markOf unmet walkOn walkable decided nothingMet spareFault idleFault sizesFit idlePath gatherAll nullSlotZero poolFound checkFound isSlot valuesAlong clearOn checkCall lengthCall pushCall popCall clearCall readCall
 reads-tried = refl
 
-pub lengths-tried : (lengths ≡ 4 ∷ 1 ∷ 0 ∷ 0 ∷ []) × (eightLengths ≡ 0 ∷ 0 ∷ 0 ∷ 1 ∷ 0 ∷ 0 ∷ 0 ∷ 2 ∷ 0 ∷ [])
+pub lengths-tried : (lengths ≡ 4 ∷ 1 ∷ 0 ∷ 0 ∷ []) × (eightLengths ≡ 0 ∷ 0 ∷ 0 ∷ 1 ∷ 0 ∷ 0 ∷ 0 ∷ 2 ∷ 0 ∷ []) × (refusedLengths ≡ 0 ∷ 0 ∷ 0 ∷ 0 ∷ 0 ∷ 0 ∷ [])
 unfolding isFair isZero gather allZero keepsRules isMetOf markOf unmet walkOn walkable decided nothingMet spareFault idleFault sizesFit idlePath gatherAll nullSlotZero poolFound checkFound lengthCall
-lengths-tried = (refl, refl)
+lengths-tried = (refl, refl, refl)
 
 -- and after a setup; and setup's numbers
 pub setups-tried : setupsPass setups ≡ true
@@ -61,3 +62,10 @@ pub setup-sizes-tried : (sizeGives 0 0 0 ≡ 1) × (sizeGives 1 1 1 ≡ 1) × (s
     × (sizeGives 6 6 5 ≡ 1) × (sizeGives 6 6 7 ≡ 1) × (sizeGives 6 5 6 ≡ 1) × (sizeGives 5 6 6 ≡ 1)
 unfolding tabulate isFair isZero gather allZero keepsRules sizesFit setupCall decided freshValue
 setup-sizes-tried = (refl, refl, refl, refl, refl, refl, refl, refl, refl)
+
+-- ---- what the others lack
+
+-- P3: list 1 lacks one slot; list 0 none, and its own share is never counted against a list
+pub others-tried : (othersLack (trialP3 .book) (record { chains = (3 ∷ 1 ∷ 2 ∷ 4 ∷ []) ∷ [] ∷ []; idle = 5 ∷ [] }) 0 ≡ 1) × (othersLack (trialP3 .book) (record { chains = (3 ∷ 1 ∷ 2 ∷ 4 ∷ []) ∷ [] ∷ []; idle = 5 ∷ [] }) 1 ≡ 0)
+    × (othersLack (trialP3 .book) (record { chains = [] ∷ [] ∷ []; idle = [] }) 0 ≡ 1) × (othersLack (trialP3 .book) (record { chains = [] ∷ [] ∷ []; idle = [] }) 1 ≡ 2)
+others-tried = (refl, refl, refl, refl)

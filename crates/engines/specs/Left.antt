@@ -73,6 +73,20 @@ abbrev joinedAll : List (List CallCase) → List CallCase
 joinedAll [] = []
 joinedAll (ts ∷ more) = ts ++ joinedAll more
 
+-- P3 with a value in slot 0, which is not sound; with a value cell too few; and a list at its limit
+abbrev damaged : State trial
+damaged = pool (six 0 2 4 1 0 0) (six 0 3 1 0 2 0) (six 1 20 30 10 40 0) 2 (ends 3 4 0 0) 5
+
+abbrev uneven : State trial
+uneven = pool (six 0 2 4 1 0 0) (six 0 3 1 0 2 0) (0 ∷ 20 ∷ 30 ∷ 10 ∷ 40 ∷ []) 2 (ends 3 4 0 0) 5
+
+abbrev atLimit : State trial
+atLimit = pool (0 ∷ 0 ∷ []) (0 ∷ 0 ∷ []) (0 ∷ 5 ∷ []) 1 (entry 1 1 0 1 ∷ none 7) 0
+
+-- whatever is asked of it, it is refused by the number, hands out 0 and stays
+abbrev staysBy : ℕ → State trial → ℕ → List CallCase
+staysBy number st l = map (λ move. turn st move number 0 st) (check ∷ pushBack l 9 ∷ pushFront l 9 ∷ popBack l ∷ popFront l ∷ clear l ∷ [])
+
 abbrev pub turns : List CallCase
 turns =
     joinedAll (map throughBoth (0 ∷ allBits ∷ edgeBits))
@@ -107,7 +121,9 @@ turns =
     ∷ turn trialP3 (popBack 2) 4 0 trialP3
     ∷ turn trialP3 (clear 2) 4 0 trialP3
     ∷ turn full (pushBack 1 9) 7 0 full
-    ∷ []
+    ∷ turn atLimit (pushBack 0 9) 6 0 atLimit
+    ∷ turn atLimit (pushFront 0 9) 6 0 atLimit
+    ∷ joinedAll (map (λ l. staysBy 3 damaged l ++ staysBy 1 uneven l) (0 ∷ 1 ∷ 9 ∷ []))
 
 -- the value that a call hands out
 abbrev valueOf : State trial → Move → ℕ
@@ -159,6 +175,7 @@ readsTried =
     ∷ readTurn lastHeld Front 7 (six 1 2 3 4 5 6) 0 0 2 (six 20 30 3 4 5 6)
     ∷ readTurn lastHeld Back 7 (six 1 2 3 4 5 6) 0 0 2 (six 30 20 3 4 5 6)
     ∷ readTurn lastHeld Front 3 (six 1 2 3 4 5 6) 5 0 1 (six 1 2 3 4 5 10)
+    ∷ readTurn lastHeld Back 3 (six 1 2 3 4 5 6) 5 0 1 (six 1 2 3 4 5 10)
     -- too few places; none written, at the buffer's length, and one place further
     ∷ readTurn trialP3 Front 0 (six 1 2 3 4 5 6) 3 8 0 (six 1 2 3 4 5 6)
     ∷ readTurn trialP3 Back 0 (six 1 2 3 4 5 6) 3 8 0 (six 1 2 3 4 5 6)
@@ -167,6 +184,11 @@ readsTried =
     ∷ readTurn trialP3 Front 1 (six 1 2 3 4 5 6) 7 8 0 (six 1 2 3 4 5 6)
     ∷ readTurn trialP3 Back 1 (six 1 2 3 4 5 6) 7 8 0 (six 1 2 3 4 5 6)
     ∷ readTurn trialP3 Front 2 (six 1 2 3 4 5 6) 0 4 0 (six 1 2 3 4 5 6)
+    -- no pool, and one that is not sound
+    ∷ readTurn uneven Front 0 (six 1 2 3 4 5 6) 0 1 0 (six 1 2 3 4 5 6)
+    ∷ readTurn uneven Back 0 (six 1 2 3 4 5 6) 0 1 0 (six 1 2 3 4 5 6)
+    ∷ readTurn damaged Front 0 (six 1 2 3 4 5 6) 0 3 0 (six 1 2 3 4 5 6)
+    ∷ readTurn damaged Back 0 (six 1 2 3 4 5 6) 0 3 0 (six 1 2 3 4 5 6)
     ∷ map (λ b. readTurn (oneHeld b) Front 0 (7 ∷ []) 0 0 1 (b ∷ [])) edgeBits
 
 abbrev pub readsPass : List ReadTurn → Bool
@@ -178,6 +200,10 @@ readsPass (t ∷ ts) =
 -- the length of each list, and 0 of one that there is not
 abbrev pub lengths : List ℕ
 lengths = map (λ l. lengthCall trial (full .links) (full .values) (full .book) l .length) (0 ∷ 1 ∷ 2 ∷ 9 ∷ [])
+
+-- and 0 where it is refused by 1 or by 3
+abbrev pub refusedLengths : List ℕ
+refusedLengths = map (λ l. lengthCall trial (uneven .links) (uneven .values) (uneven .book) l .length) (0 ∷ 1 ∷ 9 ∷ []) ++ map (λ l. lengthCall trial (damaged .links) (damaged .values) (damaged .book) l .length) (0 ∷ 1 ∷ 9 ∷ [])
 
 -- and of each of eight lists
 abbrev pub eightLengths : List ℕ
@@ -212,6 +238,19 @@ notSetUp lists shares limits number =
       leaves = pool (other .next) (other .previous) (replicate 6 allBits) 0 (none 8) 0;
     }
 
+-- refused by 1: so many values for six links
+abbrev noPool : ℕ → Setup
+noPool values =
+    record {
+      links = other;
+      values = replicate values allBits;
+      lists = 1;
+      shares = replicate 8 0;
+      limits = replicate 8 0;
+      number = 1;
+      leaves = pool (other .next) (other .previous) (replicate values allBits) 0 (none 8) 0;
+    }
+
 -- a done one. 01: "links 1 to 2, 2 to 3, and so on, the last 0; all values 0; free head 1; lists empty. It ignores and overwrites what was there"
 abbrev setUpTo : ℕ → List ℕ → List ℕ → List Entry → Setup
 setUpTo lists shares limits entries =
@@ -236,6 +275,9 @@ setups =
     ∷ setUpTo 1 (replicate 8 0) (replicate 8 0) (none 8)
     ∷ setUpTo 8 (replicate 8 0) (replicate 8 0) (none 8)
     ∷ notSetUp 9 (replicate 8 0) (replicate 8 0) 2
+    -- 1: a value cell too few, and one too many
+    ∷ noPool 5
+    ∷ noPool 7
     -- "share ≤ limit ≤ N-1 for each list"
     ∷ setUpTo 2 (eight 2 1) (eight 5 3) (entry 0 0 2 5 ∷ entry 0 0 1 3 ∷ none 6)
     ∷ setUpTo 2 (eight 2 1) (eight 2 1) (entry 0 0 2 2 ∷ entry 0 0 1 1 ∷ none 6)

@@ -90,3 +90,9 @@ faultsFound (b ∷ bs) =
 abbrev pub lastHolds : ℕ → ℕ → List ℕ → Fault
 lastHolds value live slots =
     idleFound 4096 (set (replicate 4096 0) 4095 value) (record { head = 0 }) 1 (round (record { fault = noFault; live = live; lacks = 0; over = 1; length = 0 }) (replicate 4096 1)) (record { ok = true; slots = slots }) .fault
+
+-- and what the check finds there: 4,095 free slots, of which as many are lacked, or as many live ones
+abbrev pub largestFound : ℕ → ℕ → List ℕ → List ℕ
+largestFound live lacking slots =
+    let found = idleFound 4096 [] (record { head = 1 }) 1 (round (record { fault = noFault; live = live; lacks = lacking; over = 1; length = live }) (replicate 4096 0)) (record { ok = true; slots = slots }) in
+    found .fault .rule ∷ found .length ∷ found .lacks ∷ found .free ∷ []

@@ -29,8 +29,8 @@ use Rattle.engines.proofs.Shape.{unique-book}
 use Rattle.engines.proofs.Steps.{joined-one}
 use Rattle.shapes.proofs.Ends.{length-joined}
 use Rattle.engines.proofs.Fresh.{setup-keeps}
-use Rattle.engines.proofs.Outcomes.{read-refused, clear-done}
-use Rattle.engines.proofs.Exactly.{length-zero, clear-zero, pop-zero, read-zero, read-eight}
+use Rattle.engines.proofs.Outcomes.{check-accepts, read-refused, clear-done}
+use Rattle.engines.proofs.Exactly.{push-else, length-zero, clear-zero, pop-zero, read-zero, read-eight}
 use Rattle.engines.proofs.Upstream.{as-long, length-is, pop-takes, pop-five-exactly, read-is}
 use Rattle.xor.specs.Engine.{xor}
 use Rattle.xor.specs.Ten.{setupOf}
@@ -218,6 +218,8 @@ demand-3-of-c {lists} {shares} {limits} {m} {ledger} t =
           served = D .served;
           six = D .six;
           seven = D .seven;
+          taken = λ l value b. (push-else xor-lawful (D .sound) l (omega (arith, D .asMany)) Back value, push-else xor-lawful (D .sound) l (omega (arith, D .asMany)) Front value);
+          checked = check-accepts xor-lawful (m .links) (m .values) (eight (bookFrom (m .words))) .1 (s, D .sound);
           never = λ move. let e = returned-told m move ∙ number-told (poolOf m) move in (λ z. D .never move .0 (sym e ∙ z), λ z. D .never move .1 (sym e ∙ z));
         }
       where

@@ -2,7 +2,7 @@
 use mathlib.Core.Path.{_≡_, refl}
 use mathlib.Core.Bool.{true}
 use mathlib.Core.List.{[], _∷_}
-use lib.ListN.{take}
+use lib.ListN.{take, replicate}
 use Rattle.books.specs.Tabulate.{tabulate}
 use Rattle.books.specs.Test.{isFair, isZero, gather, allZero, keepsRules}
 use Rattle.shapes.specs.Ends.{nearOf, withNear}
@@ -11,6 +11,8 @@ use Rattle.shapes.specs.Setup.{freshValue}
 use Rattle.shapes.specs.Met.{isMetOf, markOf, unmet}
 use Rattle.shapes.specs.Walk.{walkOn, walkable}
 use Rattle.shapes.specs.Numbers.{decided}
+use Rattle.shapes.specs.Ledger.{Ledger}
+use Rattle.shapes.specs.Moves.{pushBack}
 use Rattle.engines.specs.Reads.{isSlot, valuesAlong, clearOn}
 use Rattle.engines.specs.Check.{sizesFit, gatherAll, nullSlotZero, poolFound, checkFound, idlePath}
 use Rattle.engines.specs.Calls.{setupCall, checkCall, lengthCall, pushCall, popCall, clearCall, readCall}
@@ -20,7 +22,8 @@ use Rattle.xor.specs.Slots.{takeOf, releaseOf}
 use Rattle.xor.specs.Slot.{inPool}
 use Rattle.faces.specs.Words.{kept}
 use Rattle.faces.specs.Version.{faceVersion}
-use Rattle.faces.specs.Tried.{cP1, cSetups, cSetupsPass, cTurns, cTurnsPass, notedFrom, notes, cAnswersPass}
+use Rattle.faces.specs.Trace.{Memory, returned, FaceTrace, started, continued}
+use Rattle.faces.specs.Tried.{cP1, cSetups, cSetupsPass, cTurns, cDamaged, cRefused, cTurnsPass, notedFrom, notes, cAnswersPass}
 
 pub c-setups-tried : cSetupsPass cSetups ≡ true
 unfolding tabulate isFair isZero gather allZero keepsRules sizesFit decided freshLink freshValue setupCall kept
@@ -29,6 +32,10 @@ c-setups-tried = refl
 pub c-turns-tried : cTurnsPass cP1 cTurns ≡ true
 unfolding tabulate isFair isZero gather allZero keepsRules nothingMet gatherAll spareFault idleFault nullSlotZero poolFound checkFound sizesFit decided isMetOf markOf unmet walkOn walkable idlePath kept nearOf withNear isBeside pushEmptyOf pushBesideOf pushOf popOf takeOf releaseOf inPool checkCall lengthCall pushCall popCall clearCall clearOn readCall isSlot valuesAlong
 c-turns-tried = refl
+
+pub c-refused-tried : cTurnsPass cDamaged cRefused ≡ true
+unfolding tabulate isFair isZero gather allZero keepsRules nothingMet gatherAll spareFault idleFault nullSlotZero poolFound checkFound sizesFit decided isMetOf markOf unmet walkOn walkable idlePath kept nearOf withNear isBeside pushEmptyOf pushBesideOf pushOf popOf takeOf releaseOf inPool checkCall lengthCall pushCall popCall clearCall clearOn readCall isSlot valuesAlong
+c-refused-tried = refl
 
 -- after P7: list 0 had four pushes and one pop, list 1 two pushes; the refused ones are not noted
 pub c-ledger-tried : (notes (notedFrom (take 10 cTurns)) 0 4 1 (20 ∷ 30 ∷ 40 ∷ []) ≡ true) × (notes (notedFrom (take 10 cTurns)) 1 2 0 (60 ∷ 61 ∷ []) ≡ true)
@@ -47,3 +54,8 @@ c-answers-tried = refl
 -- include/flailreeve.h says the same number
 pub version-is : faceVersion ≡ 1
 version-is = refl
+
+-- there are traces: three pushes on list 1, whose limit is three, begun on words of which there are none
+pub face-six-reached : (m : Memory) × (d : Ledger) × FaceTrace 2 (2 ∷ 1 ∷ replicate 6 0) (5 ∷ 3 ∷ replicate 6 0) m d × (returned m (pushBack 1 14) ≡ 6) × (d .pushes 1 ≡ 3)
+unfolding tabulate isFair isZero gather allZero keepsRules nothingMet gatherAll spareFault idleFault nullSlotZero poolFound checkFound sizesFit decided isMetOf markOf unmet walkOn walkable idlePath kept nearOf withNear isBeside pushEmptyOf pushBesideOf pushOf popOf takeOf releaseOf inPool checkCall lengthCall pushCall popCall clearCall clearOn readCall isSlot valuesAlong freshLink freshValue setupCall
+face-six-reached = (_, _, continued (continued (continued (started (replicate 6 9) (replicate 6 7) [] refl) (pushBack 1 11)) (pushBack 1 12)) (pushBack 1 13), refl, refl)

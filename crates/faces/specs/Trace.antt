@@ -91,7 +91,12 @@ pub record FaceDemand3 (lists : ℕ) (shares limits : List ℕ) (m : Memory) (le
   pub seven : (l value : ℕ) → l < lists
       → let Tight = (length (chainAt s l) < getD limits l 0) × (getD shares l 0 ≤ length (chainAt s l)) × (length (s .idle) ≤ othersLack (eight (bookFrom (m .words))) s l) in
       (returned m (pushBack l value) ≡ 7 ↔ Tight) × (returned m (pushFront l value) ≡ 7 ↔ Tight)
-  -- no call of a trace is refused by 1 or by 3
+  -- and where it gets neither it is done
+  pub taken : (l value : ℕ) → l < lists
+      → (returned m (pushBack l value) ≢ 6 → returned m (pushBack l value) ≢ 7 → returned m (pushBack l value) ≡ 0)
+      × (returned m (pushFront l value) ≢ 6 → returned m (pushFront l value) ≢ 7 → returned m (pushFront l value) ≡ 0)
+  -- the check finds it sound; no call of a trace is refused by 1 or by 3
+  pub checked : returned m check ≡ 0
   pub never : (move : Move) → (returned m move ≢ 1) × (returned m move ≢ 3)
 
 -- what the calls give on a list of the trace that holds the values `vs`, and that a clear leaves nothing of them

@@ -127,6 +127,23 @@ cTurns =
     ∷ cTurn (popBack 1) 0 cPopped
     ∷ []
 
+-- P3 with another free head in its words: it is not sound, and every call leaves it
+abbrev pub cDamaged : Memory
+cDamaged = memory (six 0 1 5 1 2 0) (six 0 20 30 10 40 0) (twoWords 3 4 0 0 4)
+
+abbrev pub cRefused : List CTurn
+cRefused =
+    cTurn check 3 cDamaged
+    ∷ cTurn (askLength 0) 3 cDamaged
+    ∷ cTurn (pushBack 1 60) 3 cDamaged
+    ∷ cTurn (pushFront 1 60) 3 cDamaged
+    ∷ cTurn (popBack 0) 3 cDamaged
+    ∷ cTurn (popFront 0) 3 cDamaged
+    ∷ cTurn (readForward 0 (replicate 6 7) 0) 3 cDamaged
+    ∷ cTurn (readBackward 0 (replicate 6 7) 0) 3 cDamaged
+    ∷ cTurn (clear 0) 3 cDamaged
+    ∷ []
+
 -- does each return its number and leave its memory?
 abbrev pub cTurnsPass : Memory → List CTurn → Bool
 cTurnsPass m [] = true
@@ -162,6 +179,9 @@ cAnswersPass =
     toldIs (lengthFace (m .links) (m .values) (m .words) 0) 0 3
     && (toldIs (lengthFace (m .links) (m .values) (m .words) 1) 0 2
     && (toldIs (lengthFace (m .links) (m .values) (m .words) 2) 4 0
+    && (toldIs (lengthFace (cDamaged .links) (cDamaged .values) (cDamaged .words) 0) 3 0
+    && (eqb (popBackFace (cDamaged .links) (cDamaged .values) (cDamaged .words) 0 .answer .value) 0
+    && (shownIs (readBackwardFace (cDamaged .links) (cDamaged .values) (cDamaged .words) 0 five 0) 3 0 five
     && (eqb (popFrontFace (m .links) (m .values) (m .words) 0 .answer .value) 20
     && (eqb (popBackFace (m .links) (m .values) (m .words) 0 .answer .value) 40
     && (eqb (popBackFace (m .links) (m .values) (m .words) 1 .answer .value) 61
@@ -172,4 +192,4 @@ cAnswersPass =
     && (shownIs (readForwardFace (m .links) (m .values) (m .words) 0 five 3) 8 0 five
     && (shownIs (readBackwardFace (m .links) (m .values) (m .words) 2 five 0) 4 0 five
     && (shownIs (readForwardFace (cleared .links) (cleared .values) (cleared .words) 0 five 5) 0 0 five
-    && shownIs (readForwardFace (cleared .links) (cleared .values) (cleared .words) 0 five 6) 8 0 five))))))))))))
+    && shownIs (readForwardFace (cleared .links) (cleared .values) (cleared .words) 0 five 6) 8 0 five)))))))))))))))

@@ -12,7 +12,8 @@ use Rattle.shapes.specs.declared.End.the-variants.{Front, Back}
 use Rattle.shapes.specs.declared.Gathered.{Gathered}
 use Rattle.shapes.specs.Ends.{joined, contents, fromEnd, endSlot}
 use Rattle.shapes.specs.Shape.{lacks}
-use Rattle.shapes.specs.Numbers.{test, firstThat}
+use Rattle.shapes.specs.Numbers.{test, firstThat, Condition, condition, Given, this, later}
+use Rattle.shapes.proofs.Numbers.{given-only}
 use Rattle.shapes.specs.Tests.{pushOwnTests, popOwnTests, readOwnTests}
 use Rattle.shapes.specs.Met.{isMetOf}
 use Rattle.shapes.specs.Walk.{unwipedFrom}
@@ -42,6 +43,16 @@ ends-tried = (refl, refl, refl, refl, refl, refl, refl)
 pub first-tried : (firstThat (test 1 false ∷ test 3 true ∷ test 4 true ∷ []) ≡ 3) × (firstThat (test 1 false ∷ []) ≡ 0)
 first-tried = (refl, refl)
 
+-- 3 holds and 4 too: 3 is given, and neither 1, nor 4, nor 0
+abbrev twoHold : List Condition
+twoHold = condition 1 ⊥ ∷ condition 3 Unit ∷ condition 4 Unit ∷ []
+
+pub given-tried : Given twoHold 3 × (Given twoHold 1 → ⊥) × (Given twoHold 4 → ⊥) × (Given twoHold 0 → ⊥)
+given-tried = (three-given, λ g. omega (arith, given-only g three-given), λ g. omega (arith, given-only g three-given), λ g. omega (arith, given-only g three-given))
+  where
+    three-given : Given twoHold 3
+    three-given = later (λ h. h) (this tt)
+
 -- share 2 and limit 5: 6 at the limit, whatever is free; 7 under it with the share, where the free slots are what the lists lack; a slot to spare; and a list that has not its share
 pub push-tried : (firstThat (pushOwnTests (granted 2 5) 5 1 1) ≡ 6) × (firstThat (pushOwnTests (granted 2 5) 4 1 1) ≡ 7) × (firstThat (pushOwnTests (granted 2 5) 2 0 0) ≡ 7)
     × (firstThat (pushOwnTests (granted 2 5) 4 1 2) ≡ 0) × (firstThat (pushOwnTests (granted 2 5) 1 1 1) ≡ 0)
@@ -67,6 +78,11 @@ gathered = gatherOne 1 3 2 (granted 0 0) 1 (gatherOne 1 3 1 (granted 4 1) 2 (gat
 pub gather-tried : (gathered .live ≡ 6) × (gathered .lacks ≡ 2) × (gathered .over ≡ 1) × (gathered .length ≡ 2) × (gathered .fault ≡ noFault)
     × (gatherFault 1 4 gathered .fault ≡ fault 11 1 4)
 gather-tried = (refl, refl, refl, refl, refl, refl)
+
+-- the largest pool: one list has every slot, or lacks every one
+pub gather-largest : (gatherOne 0 1 0 (granted 4095 4095) 4095 (gatheredNone 1) .live ≡ 4095) × (gatherOne 0 1 0 (granted 4095 4095) 4095 (gatheredNone 1) .length ≡ 4095)
+    × (gatherOne 0 1 0 (granted 4095 4095) 0 (gatheredNone 1) .lacks ≡ 4095)
+gather-largest = (refl, refl, refl)
 
 -- of slots 3, 1, 2, of which 1 is wiped, the lowest that is not is 2
 pub unwiped-tried : unwipedFrom (0 ∷ three 0 7 9) (three 3 1 2) 0 ≡ 2

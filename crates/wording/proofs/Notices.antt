@@ -16,9 +16,18 @@ use Rattle.wording.specs.Notices.{between, noticeOf, noticesBelow, allNo
 -- ---- a line
 
 -- two of them, byte by byte
-pub notices-tried : (noticeOf 5 ≡ spelled "5: the list is empty\n") × (noticeOf 10 ≡ spelled "10: this version does not know the number\n")
+pub notices-tried : (noticeOf 0 ≡ spelled "0: done\n")
+    × (noticeOf 1 ≡ spelled "1: the pool is too small or large, or its parts differ in length\n")
+    × (noticeOf 2 ≡ spelled "2: the lists, shares or limits asked for break the rules\n")
+    × (noticeOf 3 ≡ spelled "3: the pool or its book is damaged\n")
+    × (noticeOf 4 ≡ spelled "4: there is no such list\n")
+    × (noticeOf 5 ≡ spelled "5: the list is empty\n")
+    × (noticeOf 6 ≡ spelled "6: the list is at its limit\n")
+    × (noticeOf 7 ≡ spelled "7: no slot is free but those kept for other lists\n")
+    × (noticeOf 8 ≡ spelled "8: the buffer is too small\n")
+    × (noticeOf 10 ≡ spelled "10: this version does not know the number\n")
 unfolding noticeOf textOf digitsOn
-notices-tried = (refl, refl)
+notices-tried = (refl, refl, refl, refl, refl, refl, refl, refl, refl, refl)
 
 module _ (number : ℕ) (small : number < 2 ^ 16) where
   few : length (bytesOf number) ≤ 20
