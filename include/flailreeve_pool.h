@@ -1,8 +1,8 @@
 /* For those who would rather not write four arguments each time: a pool as one struct, and the ten calls over it, inline. It adds
  * nothing to flailreeve.h, which says what each call does and gives, and what the caller owes; C11 and C++17.
  *
- * An optimising compiler makes no function of these. Without optimisation each is one, and its frame keeps a copy of the value
- * that a push is handed. */
+ * Where the compiler does not compile these into their caller, as without optimisation, each is a function, and its frame keeps
+ * a copy of the value that a push is handed. The measurements of the stack are of flailreeve.h's functions. */
 #ifndef FLAILREEVE_POOL_H
 #define FLAILREEVE_POOL_H
 
