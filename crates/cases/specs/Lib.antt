@@ -3,3 +3,4 @@ pub mod Cases
 pub mod Reach
 pub mod Unmarked
 pub mod Many
+pub mod High

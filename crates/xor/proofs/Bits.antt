@@ -15,11 +15,9 @@ use Rattle.engines.specs.Check.{sizesFit, idlePath, gatherAll, nullSlotZero, po
 use Rattle.xor.specs.Slot.{inPool}
 use Rattle.xor.specs.Slots.{takeOf, releaseOf}
 use Rattle.xor.specs.Steps.{isBeside, pushEmptyOf, pushBesideOf, pushOf, popOf}
-use Rattle.engines.specs.Reads.{isSlot, valuesAlong, clearOn}
 use Rattle.xor.specs.Engine.{freshLink}
-use Rattle.xor.specs.Along.{clearAlong}
 use Rattle.xor.specs.Edges.{lookNumber, edgesPass}
-use Rattle.xor.specs.Bits.{freeHolds, liveHolds, nullHolds, oneBit, allHigh, allThrough, slotsSaid, freshSaid}
+use Rattle.xor.specs.Bits.{freeHolds, liveHolds, nullHolds, oneBit, allThrough, slotsSaid, freshSaid}
 
 pub every-bit-asked : edgesPass oneBit ≡ true
 unfolding isFair isZero gather allZero keepsRules nothingMet gatherAll spareFault idleFault nullSlotZero poolFound checkFound sizesFit lookOf isMetOf markOf unmet walkOn walkable idlePath
@@ -28,10 +26,6 @@ every-bit-asked = refl
 pub every-bit-through : allThrough (0 ∷ allBits ∷ valueBits) ≡ true
 unfolding nearOf withNear inPool takeOf releaseOf isBeside pushEmptyOf pushBesideOf pushOf popOf
 every-bit-through = refl
-
-pub high-slots-tried : allHigh ≡ true
-unfolding nearOf withNear inPool takeOf releaseOf isBeside pushEmptyOf pushBesideOf pushOf popOf clearOn clearAlong nothingMet isMetOf markOf unmet walkOn walkable isSlot valuesAlong
-high-slots-tried = refl
 
 pub slots-tried : slotsSaid ≡ false ∷ true ∷ true ∷ false ∷ false ∷ false ∷ false ∷ false ∷ false ∷ []
 unfolding inPool
