@@ -189,7 +189,9 @@ cAnswersPass =
     && (eqb (popFrontFace (cleared .links) (cleared .values) (cleared .words) 0 .answer .value) 0
     && (shownIs (readForwardFace (m .links) (m .values) (m .words) 0 five 1) 0 3 (7 ∷ 20 ∷ 30 ∷ 40 ∷ 7 ∷ [])
     && (shownIs (readBackwardFace (m .links) (m .values) (m .words) 0 five 2) 0 3 (7 ∷ 7 ∷ 40 ∷ 30 ∷ 20 ∷ [])
+    && (shownIs (readForwardFace (cP3 .links) (cP3 .values) (cP3 .words) 0 five 1) 0 4 (7 ∷ 10 ∷ 20 ∷ 30 ∷ 40 ∷ [])
+    && (shownIs (readBackwardFace (cP3 .links) (cP3 .values) (cP3 .words) 0 five 0) 0 4 (40 ∷ 30 ∷ 20 ∷ 10 ∷ 7 ∷ [])
     && (shownIs (readForwardFace (m .links) (m .values) (m .words) 0 five 3) 8 0 five
     && (shownIs (readBackwardFace (m .links) (m .values) (m .words) 2 five 0) 4 0 five
     && (shownIs (readForwardFace (cleared .links) (cleared .values) (cleared .words) 0 five 5) 0 0 five
-    && shownIs (readForwardFace (cleared .links) (cleared .values) (cleared .words) 0 five 6) 8 0 five)))))))))))))))
+    && shownIs (readForwardFace (cleared .links) (cleared .values) (cleared .words) 0 five 6) 8 0 five)))))))))))))))))
