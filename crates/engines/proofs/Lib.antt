@@ -29,6 +29,8 @@ pub mod After
 pub mod Popping
 pub mod Upstream
 pub mod Traces
+pub mod Undo
+pub mod UndoTraces
 pub mod Rows
 -- the computed cases
 pub mod Edges

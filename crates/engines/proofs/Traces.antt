@@ -27,7 +27,8 @@ use Rattle.engines.specs.Sound.{SoundBook}
 use Rattle.engines.specs.Laws.{Lawful}
 use Rattle.engines.specs.Calls.{Called, setupCall, clearCall}
 use Rattle.engines.specs.Moves.{State, left, numberOf, after}
-use Rattle.shapes.specs.Ledger.{Ledger, nothingNoted, oneMore, noneAt, heldAt, butLast, butFirst, notedDone}
+use Rattle.shapes.specs.Ledger.{Ledger, nothingNoted, oneMore, noneAt, heldAt, notedDone}
+use Rattle.shapes.proofs.Ledger.{more-here, more-other, none-here, none-other, held-here, held-other, without, without-joined}
 use Rattle.engines.specs.Trace.{othersLack, noted, Trace, begins, goesOn, Demand3}
 use Rattle.engines.proofs.Shape.{unique-book}
 use Rattle.engines.proofs.Found.{listed, entry-is, within}
@@ -46,38 +47,6 @@ lacks-others (e ∷ es) [] zero b = omega arith
 lacks-others (e ∷ es) (xs ∷ cs) zero b = omega arith
 lacks-others (e ∷ es) [] (suc l) b = omega (arith, lacks-others es [] l (le-of-suc-le-suc b))
 lacks-others (e ∷ es) (xs ∷ cs) (suc l) b = omega (arith, lacks-others es cs l (le-of-suc-le-suc b))
-
--- ---- the ledger
-
-more-here : (l : ℕ) (f : ℕ → ℕ) → oneMore l f l ≡ suc (f l)
-more-here l f = rw (eq-eqb l l refl)
-
-more-other : (l : ℕ) (f : ℕ → ℕ) (k : ℕ) → k ≢ l → oneMore l f k ≡ f k
-more-other l f k d = rw (ne-eqb k l d)
-
-none-here : (l : ℕ) (f : ℕ → ℕ) → noneAt l f l ≡ 0
-none-here l f = rw (eq-eqb l l refl)
-
-none-other : (l : ℕ) (f : ℕ → ℕ) (k : ℕ) → k ≢ l → noneAt l f k ≡ f k
-none-other l f k d = rw (ne-eqb k l d)
-
-held-here : (l : ℕ) (vs : List ℕ) (f : ℕ → List ℕ) → heldAt l vs f l ≡ vs
-held-here l vs f = rw (eq-eqb l l refl)
-
-held-other : (l : ℕ) (vs : List ℕ) (f : ℕ → List ℕ) (k : ℕ) → k ≢ l → heldAt l vs f k ≡ f k
-held-other l vs f k d = rw (ne-eqb k l d)
-
--- a sequence without its value at an end
-abbrev without : End → List ℕ → List ℕ
-without Front vs = butFirst vs
-without Back vs = butLast vs
-
-without-joined : (end : End) (v : ℕ) (vs : List ℕ) → without end (joined end v vs) ≡ vs
-without-joined Front v vs = refl
-without-joined Back v vs = ap (λ n. take n (vs ++ v ∷ [])) one-less ∙ take-append-seam vs (v ∷ [])
-  where
-    one-less : length (vs ++ v ∷ []) - 1 ≡ length vs
-    one-less = omega (arith, length-append vs (v ∷ []))
 
 -- ---- what a trace keeps
 

@@ -14,6 +14,7 @@ pub mod Done
 pub mod Moves
 pub mod Rows
 pub mod Trace
+pub mod Undo
 -- an engine to compute with, and cases over it on both sides of every clause and condition
 pub mod Trial
 pub mod Edges

@@ -3,4 +3,5 @@ pub mod Kept
 pub mod Exact
 pub mod OneResult
 pub mod Traces
+pub mod Undo
 pub mod Tried

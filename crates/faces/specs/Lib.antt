@@ -3,5 +3,6 @@ pub mod Words
 pub mod Face
 pub mod Meaning
 pub mod Trace
+pub mod Undo
 pub mod Version
 pub mod Tried

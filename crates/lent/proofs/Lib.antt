@@ -5,3 +5,4 @@ pub mod Pop
 pub mod Promised
 pub mod OneResult
 pub mod Refusals
+pub mod Undo

@@ -8,4 +8,5 @@ pub mod Going
 pub mod Walks
 pub mod Tried
 pub mod Changes
+pub mod Ledger
 pub mod Sides

@@ -42,3 +42,11 @@ lacks-part [] cs l n b = absurd (not-suc-le-zero b)
 lacks-part (d ∷ es) [] l n b = absurd (omega arith)
 lacks-part (d ∷ es) (ys ∷ cs) zero n b = omega arith
 lacks-part (d ∷ es) (ys ∷ cs) (suc l) n b = omega (arith, lacks-part es cs l (omega arith) (le-of-suc-le-suc b))
+
+-- what the lists lack is told by their shares, and by no other field of their entries
+pub lacks-shares : (es es′ : List Entry) (cs : List (List ℕ)) → length es ≡ length es′ → ((l : ℕ) → l < length es → entryAt es l .share ≡ entryAt es′ l .share) → lacks es cs ≡ lacks es′ cs
+lacks-shares [] [] cs n h = refl
+lacks-shares [] (d ∷ es′) cs n h = absurd (omega arith)
+lacks-shares (e ∷ es) [] cs n h = absurd (omega arith)
+lacks-shares (e ∷ es) (d ∷ es′) [] n h = omega (arith, h 0 (omega arith), lacks-shares es es′ [] (omega arith) (λ l b. h (suc l) (omega arith)))
+lacks-shares (e ∷ es) (d ∷ es′) (xs ∷ cs) n h = omega (arith, ap (λ k. k - length xs) (h 0 (omega arith)), lacks-shares es es′ cs (omega arith) (λ l b. h (suc l) (omega arith)))

@@ -43,3 +43,7 @@ notedDone (popFront l) ledger = record { pushes = ledger .pushes; pops = oneMore
 notedDone (readForward l buffer at) ledger = ledger
 notedDone (readBackward l buffer at) ledger = ledger
 notedDone (clear l) ledger = record { pushes = noneAt l (ledger .pushes); pops = noneAt l (ledger .pops); held = heldAt l [] (ledger .held) }
+
+-- one push and one pop more of list l; every list holds the same
+abbrev pub onePair : ℕ → Ledger → Ledger
+onePair l ledger = record { pushes = oneMore l (ledger .pushes); pops = oneMore l (ledger .pops); held = ledger .held }

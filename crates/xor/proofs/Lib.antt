@@ -17,6 +17,7 @@ pub mod Edges
 pub mod Bits
 pub mod Tried
 pub mod Traces
+pub mod Undo
 pub mod Named
 pub mod Clearing
 pub mod Along

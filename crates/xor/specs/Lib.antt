@@ -10,5 +10,6 @@ pub mod Ten
 pub mod Along
 pub mod ClearDone
 pub mod Moves
+pub mod Undo
 pub mod Edges
 pub mod Bits

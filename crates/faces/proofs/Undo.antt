@@ -1,0 +1,152 @@
+-- 02 a) of the C functions, at both ends, and in a trace of them: from the laws of the calls by name.
+use mathlib.Core.Path.{_≡_, sym, ap, subst, _∙_}
+use mathlib.Core.Bool.{cond}
+use mathlib.Core.List.{List}
+use Prim.Native.Nat.{ℕ}
+use lib.Dec.{eqb}
+use lib.ListN.{length}
+use Rattle.books.specs.declared.Book.{Book}
+use Rattle.books.specs.declared.Answer.{Answer}
+use Rattle.books.specs.declared.Popped.{Popped}
+use Rattle.books.specs.Book.{wordsOf}
+use Rattle.books.specs.Outcome.{Outcome}
+use Rattle.books.specs.Words.{bookFrom}
+use Rattle.books.proofs.Flat.{words-kept}
+use Rattle.shapes.specs.declared.End.{End}
+use Rattle.shapes.specs.declared.End.the-variants.{Front, Back}
+use Rattle.shapes.specs.Moves.{Move, pushBack, pushFront, popBack, popFront, pushMove, popMove}
+use Rattle.shapes.specs.Ledger.{Ledger, notedDone}
+use Rattle.engines.specs.Moves.{State}
+use Rattle.engines.specs.Undo.{SameHoldings}
+use Rattle.xor.specs.Engine.{xor}
+use Rattle.xor.specs.Ten.{pushBackOf, pushFrontOf, popBackOf, popFrontOf}
+use Rattle.xor.specs.Moves.{Pool, stateOf, poolLeft, poolPopped, numberGiven, poolAfter, notedBy}
+use Rattle.xor.specs.Undo.{TakenBack, PutBack, TakenHeld, PutHeld, PoolUndone}
+use Rattle.xor.proofs.Undo.{push-back-undone, push-front-undone, pop-back-undone, pop-front-undone, push-back-held, push-front-held, pop-back-held, pop-front-held, named-press-undone, named-lift-undone}
+use Rattle.faces.specs.Face.{asChanged, asHanded, pushBackFace, pushFrontFace, popBackFace, popFrontFace}
+use Rattle.faces.specs.Trace.{Memory, memoryChanged, memoryHanded, returned, memoryAfter, notedFor, FaceTrace}
+use Rattle.faces.specs.Undo.{FaceTakenBack, FacePutBack, stateIn, FaceTakenHeld, FacePutHeld, handedTo, MemoryUndone}
+use Rattle.faces.proofs.Kept.{kept-done}
+use Rattle.faces.proofs.Traces.{poolOf, AfterCall, memory-told, returned-told, face-trace}
+
+-- ---- the four pairs of functions
+
+module _ (links values words : List ℕ) (h : length words ≡ 34) (l : ℕ) where
+  abbrev m : Memory
+  m = record { links = links; values = values; words = words }
+
+  -- what the call by name gives back, in the lent words
+  taken : {value : ℕ} (lent : List ℕ) (r : Outcome Popped) → TakenBack links values (bookFrom words) value r → FaceTakenBack links values words value (asHanded lent r)
+  taken lent r T =
+      record { number = T .number; handed = T .handed; sameLinks = T .sameLinks; sameValues = T .sameValues; sameWords = kept-done _ lent _ (T .number) ∙ ap wordsOf (T .sameBook) ∙ words-kept words h }
+
+  put : (lent : List ℕ) (r : Outcome Answer) → PutBack links values (bookFrom words) r → FacePutBack links values words (asChanged lent r)
+  put lent r T = record { number = T .number; sameLinks = T .sameLinks; sameValues = T .sameValues; sameWords = kept-done _ lent _ (T .number) ∙ ap wordsOf (T .sameBook) ∙ words-kept words h }
+
+  pub face-push-back-undone : (value : ℕ) → let r = pushBackFace links values words l value in
+      r .answer .number ≡ 0 → FaceTakenBack links values words value (popBackFace (r .links) (r .values) (r .answer .book) l)
+  face-push-back-undone value z =
+      taken _ _ (subst (λ (p : Pool). TakenBack links values (bookFrom words) value (popBackOf (p .links) (p .values) (p .book) l)) (sym (memory-told m h (pushBack l value) .pool))
+      (push-back-undone links values (bookFrom words) l value z))
+
+  pub face-push-front-undone : (value : ℕ) → let r = pushFrontFace links values words l value in
+      r .answer .number ≡ 0 → FaceTakenBack links values words value (popFrontFace (r .links) (r .values) (r .answer .book) l)
+  face-push-front-undone value z =
+      taken _ _ (subst (λ (p : Pool). TakenBack links values (bookFrom words) value (popFrontOf (p .links) (p .values) (p .book) l)) (sym (memory-told m h (pushFront l value) .pool))
+      (push-front-undone links values (bookFrom words) l value z))
+
+  pub face-pop-back-undone : let r = popBackFace links values words l in
+      r .answer .number ≡ 0 → FacePutBack links values words (pushBackFace (r .links) (r .values) (r .answer .book) l (r .answer .value))
+  face-pop-back-undone z =
+      put _ _ (subst (λ (p : Pool). PutBack links values (bookFrom words) (pushBackOf (p .links) (p .values) (p .book) l (popBackFace links values words l .answer .value))) (sym (memory-told m h (popBack l) .pool))
+      (pop-back-undone links values (bookFrom words) l z))
+
+  pub face-pop-front-undone : let r = popFrontFace links values words l in
+      r .answer .number ≡ 0 → FacePutBack links values words (pushFrontFace (r .links) (r .values) (r .answer .book) l (r .answer .value))
+  face-pop-front-undone z =
+      put _ _ (subst (λ (p : Pool). PutBack links values (bookFrom words) (pushFrontOf (p .links) (p .values) (p .book) l (popFrontFace links values words l .answer .value))) (sym (memory-told m h (popFront l) .pool))
+      (pop-front-undone links values (bookFrom words) l z))
+
+  -- ---- the weaker law of each
+
+  -- what the words hold when the second call returns is the book that the call by name leaves
+  in-words : (call back : Move) → stateIn (memoryAfter (memoryAfter m call) back) ≡ stateOf (poolAfter (poolOf (memoryAfter m call)) back)
+  in-words call back = ap stateOf (memory-told (memoryAfter m call) (memory-told m h call .words) back .pool)
+
+  taken-held : {value : ℕ} (lent : List ℕ) (r : Outcome Popped) → stateIn (memoryHanded (asHanded lent r)) ≡ stateOf (poolPopped r)
+      → TakenHeld links values (bookFrom words) value r → FaceTakenHeld links values words value (asHanded lent r)
+  taken-held lent r e T = record { number = T .number; handed = T .handed; holdings = subst (λ (st : State xor). SameHoldings xor (stateIn m) st) (sym e) (T .holdings) }
+
+  put-held : (lent : List ℕ) (r : Outcome Answer) → stateIn (memoryChanged (asChanged lent r)) ≡ stateOf (poolLeft r) → PutHeld links values (bookFrom words) r → FacePutHeld links values words (asChanged lent r)
+  put-held lent r e T = record { number = T .number; holdings = subst (λ (st : State xor). SameHoldings xor (stateIn m) st) (sym e) (T .holdings) }
+
+  pub face-push-back-held : (value : ℕ) → let r = pushBackFace links values words l value in
+      r .answer .number ≡ 0 → FaceTakenHeld links values words value (popBackFace (r .links) (r .values) (r .answer .book) l)
+  face-push-back-held value z =
+      taken-held _ _ (in-words (pushBack l value) (popBack l))
+      (subst (λ (p : Pool). TakenHeld links values (bookFrom words) value (popBackOf (p .links) (p .values) (p .book) l)) (sym (memory-told m h (pushBack l value) .pool))
+      (push-back-held links values (bookFrom words) l value z))
+
+  pub face-push-front-held : (value : ℕ) → let r = pushFrontFace links values words l value in
+      r .answer .number ≡ 0 → FaceTakenHeld links values words value (popFrontFace (r .links) (r .values) (r .answer .book) l)
+  face-push-front-held value z =
+      taken-held _ _ (in-words (pushFront l value) (popFront l))
+      (subst (λ (p : Pool). TakenHeld links values (bookFrom words) value (popFrontOf (p .links) (p .values) (p .book) l)) (sym (memory-told m h (pushFront l value) .pool))
+      (push-front-held links values (bookFrom words) l value z))
+
+  pub face-pop-back-held : let r = popBackFace links values words l in
+      r .answer .number ≡ 0 → FacePutHeld links values words (pushBackFace (r .links) (r .values) (r .answer .book) l (r .answer .value))
+  face-pop-back-held z =
+      let v = popBackFace links values words l .answer .value in
+      put-held _ _ (in-words (popBack l) (pushBack l v))
+      (subst (λ (p : Pool). PutHeld links values (bookFrom words) (pushBackOf (p .links) (p .values) (p .book) l v)) (sym (memory-told m h (popBack l) .pool))
+      (pop-back-held links values (bookFrom words) l z))
+
+  pub face-pop-front-held : let r = popFrontFace links values words l in
+      r .answer .number ≡ 0 → FacePutHeld links values words (pushFrontFace (r .links) (r .values) (r .answer .book) l (r .answer .value))
+  face-pop-front-held z =
+      let v = popFrontFace links values words l .answer .value in
+      put-held _ _ (in-words (popFront l) (pushFront l v))
+      (subst (λ (p : Pool). PutHeld links values (bookFrom words) (pushFrontOf (p .links) (p .values) (p .book) l v)) (sym (memory-told m h (popFront l) .pool))
+      (pop-front-held links values (bookFrom words) l z))
+
+-- ---- in a trace
+
+-- memory with 34 words is told from the pool that it holds
+abbrev memoryFrom : Pool → Memory
+memoryFrom p = record { links = p .links; values = p .values; words = wordsOf (p .book) }
+
+told-back : (m : Memory) → length (m .words) ≡ 34 → memoryFrom (poolOf m) ≡ m
+told-back m h = λ i. record { links = m .links; values = m .values; words = words-kept (m .words) h i }
+
+module _ {m : Memory} (h : length (m .words) ≡ 34) {ledger : Ledger} {l : ℕ} where
+  of-pool : {call back : Move} → PoolUndone (poolOf m) ledger l call back → MemoryUndone m ledger l call back
+  of-pool {call} {back} U =
+      record {
+        done = returned-told m call ∙ U .done;
+        doneToo = second ∙ U .doneToo;
+        sameMemory = sym (told-back _ (there .words)) ∙ ap memoryFrom (there .pool ∙ ap (λ (p : Pool). poolAfter p back) (first .pool) ∙ U .samePool) ∙ told-back m h;
+        account = (λ i. cond (eqb (second i) 0) (notedDone back (once i)) (once i)) ∙ U .account;
+      }
+    where
+      first : AfterCall m call
+      first = memory-told m h call
+
+      there : AfterCall (memoryAfter m call) back
+      there = memory-told (memoryAfter m call) (first .words) back
+
+      second : returned (memoryAfter m call) back ≡ numberGiven (poolAfter (poolOf m) call) back
+      second = returned-told (memoryAfter m call) back ∙ ap (λ (p : Pool). numberGiven p back) (first .pool)
+
+      once : notedFor m call ledger ≡ notedBy (poolOf m) call ledger
+      once = ap (λ (n : ℕ). cond (eqb n 0) (notedDone call ledger) ledger) (returned-told m call)
+
+module _ {lists : ℕ} {shares limits : List ℕ} {m : Memory} {ledger : Ledger} (t : FaceTrace lists shares limits m ledger) (l : ℕ) where
+  -- a press taken straight back
+  pub face-press-undone : (end : End) (value : ℕ) → returned m (pushMove end l value) ≡ 0 → MemoryUndone m ledger l (pushMove end l value) (popMove end l)
+  face-press-undone end value z = of-pool (face-trace t .0) (named-press-undone end value (sym (returned-told m (pushMove end l value)) ∙ z))
+
+  -- a pop pushed back
+  pub face-lift-undone : (end : End) → returned m (popMove end l) ≡ 0 → MemoryUndone m ledger l (popMove end l) (pushMove end l (handedTo m end l))
+  face-lift-undone Front z = of-pool (face-trace t .0) (named-lift-undone (face-trace t .1) Front z)
+  face-lift-undone Back z = of-pool (face-trace t .0) (named-lift-undone (face-trace t .1) Back z)

@@ -1,0 +1,60 @@
+-- 02 a) of the C functions: what it is for a pop to take the push before it straight back, and for a push to put back what the pop before it took.
+use mathlib.Core.Path.{_≡_}
+use mathlib.Core.List.{List}
+use Prim.Native.Nat.{ℕ}
+use Rattle.books.specs.Book.{eight}
+use Rattle.books.specs.Outcome.{Outcome}
+use Rattle.books.specs.Words.{bookFrom}
+use Rattle.shapes.specs.declared.End.{End}
+use Rattle.shapes.specs.declared.End.the-variants.{Front, Back}
+use Rattle.shapes.specs.Moves.{Move}
+use Rattle.shapes.specs.Ledger.{Ledger, onePair}
+use Rattle.engines.specs.Moves.{State}
+use Rattle.engines.specs.Undo.{SameHoldings}
+use Rattle.xor.specs.Engine.{xor}
+use Rattle.faces.specs.Face.{Changed, Handed, popBackFace, popFrontFace}
+use Rattle.faces.specs.Trace.{Memory, memoryChanged, memoryHanded, returned, memoryAfter, notedFor}
+
+-- the pool that the memory holds, as the laws over any engine have it
+abbrev pub stateIn : Memory → State xor
+stateIn m = record { links = m .links; values = m .values; book = eight (bookFrom (m .words)) }
+
+module _ (links values words : List ℕ) where
+  -- it returns 0, the value stands at `value`, and every link, every value and every word of the book is as before
+  pub record FaceTakenBack (value : ℕ) (r : Outcome Handed) : Type 0 where
+    pub number : r .answer .number ≡ 0
+    pub handed : r .answer .value ≡ value
+    pub sameLinks : r .links ≡ links
+    pub sameValues : r .values ≡ values
+    pub sameWords : r .answer .book ≡ words
+
+  pub record FacePutBack (r : Outcome Changed) : Type 0 where
+    pub number : r .answer .number ≡ 0
+    pub sameLinks : r .links ≡ links
+    pub sameValues : r .values ≡ values
+    pub sameWords : r .answer .book ≡ words
+
+  -- the weaker law of each: it returns 0, and each list's sequence of values, each length and the number of free slots are as before
+  abbrev before : State xor
+  before = stateIn (record { links = links; values = values; words = words })
+
+  pub record FaceTakenHeld (value : ℕ) (r : Outcome Handed) : Type 0 where
+    pub number : r .answer .number ≡ 0
+    pub handed : r .answer .value ≡ value
+    pub holdings : SameHoldings xor before (stateIn (memoryHanded r))
+
+  pub record FacePutHeld (r : Outcome Changed) : Type 0 where
+    pub number : r .answer .number ≡ 0
+    pub holdings : SameHoldings xor before (stateIn (memoryChanged r))
+
+-- what a pop at either end writes to `value`
+abbrev pub handedTo : Memory → End → ℕ → ℕ
+handedTo m Front l = popFrontFace (m .links) (m .values) (m .words) l .answer .value
+handedTo m Back l = popBackFace (m .links) (m .values) (m .words) l .answer .value
+
+-- in a trace of the C functions, a call and the one that takes it back: both return 0, the memory is as it was, and the ledger notes one push and one pop more of list l while every list holds the same
+pub record MemoryUndone (m : Memory) (ledger : Ledger) (l : ℕ) (call back : Move) : Type 0 where
+  pub done : returned m call ≡ 0
+  pub doneToo : returned (memoryAfter m call) back ≡ 0
+  pub sameMemory : memoryAfter (memoryAfter m call) back ≡ m
+  pub account : notedFor (memoryAfter m call) back (notedFor m call ledger) ≡ onePair l ledger

@@ -1,0 +1,141 @@
+-- 02 a) of the calls by name, at both ends, and in a trace of them: from the laws over any engine.
+use mathlib.Core.Path.{_≡_, sym, ap, subst, _∙_}
+use mathlib.Core.Bool.{cond}
+use mathlib.Core.List.{List}
+use Prim.Native.Nat.{ℕ}
+use lib.Dec.{eqb}
+use Rattle.books.specs.declared.Book.{Book}
+use Rattle.books.specs.declared.Answer.{Answer}
+use Rattle.books.specs.declared.Popped.{Popped}
+use Rattle.books.specs.Book.{AnyBook, bookOf}
+use Rattle.shapes.specs.declared.End.{End}
+use Rattle.shapes.specs.declared.End.the-variants.{Front, Back}
+use Rattle.shapes.specs.Moves.{Move, pushBack, pushFront, popBack, popFront, pushMove, popMove}
+use Rattle.shapes.specs.Ledger.{Ledger, notedDone, onePair}
+use Rattle.engines.specs.Calls.{Called}
+use Rattle.engines.specs.Moves.{State, left, numberOf, after}
+use Rattle.engines.specs.Trace.{noted}
+use Rattle.engines.specs.Undo.{Undone, SameHoldings, HeldAgain, UndoneNext}
+use Rattle.engines.proofs.After.{pushAt, popAt}
+use Rattle.engines.proofs.Undo.{push-undone, pop-undone, push-held, pop-held}
+use Rattle.engines.proofs.UndoTraces.{press-undone, lift-undone}
+use Rattle.xor.specs.Engine.{xor}
+use Rattle.xor.specs.Ten.{asAnswer, asPopped, pushBackOf, pushFrontOf, popBackOf, popFrontOf}
+use Rattle.xor.specs.Moves.{Pool, stateOf, poolLeft, poolPopped, numberGiven, poolAfter, notedBy, PoolTrace}
+use Rattle.xor.specs.Undo.{TakenBack, PutBack, TakenHeld, PutHeld, handedOut, PoolUndone}
+use Rattle.xor.proofs.Plain.{number-told, after-told}
+use Rattle.xor.proofs.Traces.{pool-trace}
+use Rattle.xor.proofs.Lawful.{xor-lawful}
+
+module _ (links values : List ℕ) (b : Book) (l : ℕ) where
+  abbrev p : Pool
+  p = record { links = links; values = values; book = b }
+
+  -- from the state that a call over any engine leaves to the pool that the call by name leaves
+  taken : {value : ℕ} (end : End) (m : Move) → Undone xor (stateOf p) value (popAt xor (after xor (stateOf p) m) end l) → TakenBack links values b value (asPopped (popAt xor (stateOf (poolAfter p m)) end l))
+  taken {value} end m U =
+      let W = subst (λ (st : State xor). Undone xor (stateOf p) value (popAt xor st end l)) (sym (after-told p m)) U in
+      record { number = W .number; handed = W .handed; sameLinks = W .sameLinks; sameValues = W .sameValues; sameBook = ap (λ (x : AnyBook). bookOf x) (W .sameBook) }
+
+  put : (value : ℕ) (end : End) (m : Move) → Undone xor (stateOf p) 0 (pushAt xor (after xor (stateOf p) m) end l value) → PutBack links values b (asAnswer (pushAt xor (stateOf (poolAfter p m)) end l value))
+  put value end m U =
+      let W = subst (λ (st : State xor). Undone xor (stateOf p) 0 (pushAt xor st end l value)) (sym (after-told p m)) U in
+      record { number = W .number; sameLinks = W .sameLinks; sameValues = W .sameValues; sameBook = ap (λ (x : AnyBook). bookOf x) (W .sameBook) }
+
+  pub push-back-undone : (value : ℕ) → let r = pushBackOf links values b l value in
+      r .answer .refusal .number ≡ 0 → TakenBack links values b value (popBackOf (r .links) (r .values) (r .answer .book) l)
+  push-back-undone value z = taken Back (pushBack l value) (push-undone xor-lawful (stateOf p) l Back value z)
+
+  pub push-front-undone : (value : ℕ) → let r = pushFrontOf links values b l value in
+      r .answer .refusal .number ≡ 0 → TakenBack links values b value (popFrontOf (r .links) (r .values) (r .answer .book) l)
+  push-front-undone value z = taken Front (pushFront l value) (push-undone xor-lawful (stateOf p) l Front value z)
+
+  pub pop-back-undone : let r = popBackOf links values b l in
+      r .answer .given .refusal .number ≡ 0 → PutBack links values b (pushBackOf (r .links) (r .values) (r .answer .book) l (r .answer .given .value))
+  pop-back-undone z = put _ Back (popBack l) (pop-undone xor-lawful (stateOf p) l Back z)
+
+  pub pop-front-undone : let r = popFrontOf links values b l in
+      r .answer .given .refusal .number ≡ 0 → PutBack links values b (pushFrontOf (r .links) (r .values) (r .answer .book) l (r .answer .given .value))
+  pop-front-undone z = put _ Front (popFront l) (pop-undone xor-lawful (stateOf p) l Front z)
+
+-- ---- the weaker law of each
+
+module _ (p : Pool) where
+  taken-held : {value : ℕ} (r : Called xor) → stateOf (poolPopped (asPopped r)) ≡ left r → HeldAgain xor (stateOf p) value r → TakenHeld (p .links) (p .values) (p .book) value (asPopped r)
+  taken-held r e H = record { number = H .number; handed = H .handed; holdings = subst (λ (st : State xor). SameHoldings xor (stateOf p) st) (sym e) (H .holdings) }
+
+  put-held : (r : Called xor) → stateOf (poolLeft (asAnswer r)) ≡ left r → HeldAgain xor (stateOf p) 0 r → PutHeld (p .links) (p .values) (p .book) (asAnswer r)
+  put-held r e H = record { number = H .number; holdings = subst (λ (st : State xor). SameHoldings xor (stateOf p) st) (sym e) (H .holdings) }
+
+  module _ (l : ℕ) where
+    -- the call that follows, on the pool that the call by name leaves
+    popped-held : {value : ℕ} (end : End) (m : Move) → stateOf (poolPopped (asPopped (popAt xor (stateOf (poolAfter p m)) end l))) ≡ left (popAt xor (stateOf (poolAfter p m)) end l)
+        → HeldAgain xor (stateOf p) value (popAt xor (after xor (stateOf p) m) end l) → TakenHeld (p .links) (p .values) (p .book) value (asPopped (popAt xor (stateOf (poolAfter p m)) end l))
+    popped-held {value} end m e H = taken-held _ e (subst (λ (st : State xor). HeldAgain xor (stateOf p) value (popAt xor st end l)) (sym (after-told p m)) H)
+
+    pushed-held : (value : ℕ) (end : End) (m : Move) → stateOf (poolLeft (asAnswer (pushAt xor (stateOf (poolAfter p m)) end l value))) ≡ left (pushAt xor (stateOf (poolAfter p m)) end l value)
+        → HeldAgain xor (stateOf p) 0 (pushAt xor (after xor (stateOf p) m) end l value) → PutHeld (p .links) (p .values) (p .book) (asAnswer (pushAt xor (stateOf (poolAfter p m)) end l value))
+    pushed-held value end m e H = put-held _ e (subst (λ (st : State xor). HeldAgain xor (stateOf p) 0 (pushAt xor st end l value)) (sym (after-told p m)) H)
+
+module _ (links values : List ℕ) (b : Book) (l : ℕ) where
+  abbrev q : Pool
+  q = record { links = links; values = values; book = b }
+
+  pub push-back-held : (value : ℕ) → let r = pushBackOf links values b l value in
+      r .answer .refusal .number ≡ 0 → TakenHeld links values b value (popBackOf (r .links) (r .values) (r .answer .book) l)
+  push-back-held value z =
+      let m = pushBack l value in
+      popped-held q l Back m (after-told (poolAfter q m) (popBack l)) (push-held xor-lawful (stateOf q) l Back value z)
+
+  pub push-front-held : (value : ℕ) → let r = pushFrontOf links values b l value in
+      r .answer .refusal .number ≡ 0 → TakenHeld links values b value (popFrontOf (r .links) (r .values) (r .answer .book) l)
+  push-front-held value z =
+      let m = pushFront l value in
+      popped-held q l Front m (after-told (poolAfter q m) (popFront l)) (push-held xor-lawful (stateOf q) l Front value z)
+
+  pub pop-back-held : let r = popBackOf links values b l in
+      r .answer .given .refusal .number ≡ 0 → PutHeld links values b (pushBackOf (r .links) (r .values) (r .answer .book) l (r .answer .given .value))
+  pop-back-held z =
+      let v = popBackOf links values b l .answer .given .value in
+      pushed-held q l v Back (popBack l) (after-told (poolAfter q (popBack l)) (pushBack l v)) (pop-held xor-lawful (stateOf q) l Back z)
+
+  pub pop-front-held : let r = popFrontOf links values b l in
+      r .answer .given .refusal .number ≡ 0 → PutHeld links values b (pushFrontOf (r .links) (r .values) (r .answer .book) l (r .answer .given .value))
+  pop-front-held z =
+      let v = popFrontOf links values b l .answer .given .value in
+      pushed-held q l v Front (popFront l) (after-told (poolAfter q (popFront l)) (pushFront l v)) (pop-held xor-lawful (stateOf q) l Front z)
+
+-- ---- in a trace
+
+-- the pool with its book is told from the state
+abbrev poolFrom : State xor → Pool
+poolFrom st = record { links = st .links; values = st .values; book = bookOf (st .book) }
+
+module _ {p : Pool} {ledger : Ledger} {l : ℕ} where
+  named : {call back : Move} → UndoneNext xor (stateOf p) ledger l call back → PoolUndone p ledger l call back
+  named {call} {back} U =
+      record {
+        done = number-told p call ∙ U .done;
+        doneToo = second ∙ U .doneToo;
+        samePool = ap poolFrom (then ∙ U .sameState);
+        account = (λ i. cond (eqb (second i) 0) (notedDone back (first i)) (first i)) ∙ U .account;
+      }
+    where
+      second : numberGiven (poolAfter p call) back ≡ numberOf xor (after xor (stateOf p) call) back
+      second = number-told (poolAfter p call) back ∙ ap (λ (st : State xor). numberOf xor st back) (after-told p call)
+
+      then : stateOf (poolAfter (poolAfter p call) back) ≡ after xor (after xor (stateOf p) call) back
+      then = after-told (poolAfter p call) back ∙ ap (λ (st : State xor). after xor st back) (after-told p call)
+
+      first : notedBy p call ledger ≡ noted xor (stateOf p) call ledger
+      first = ap (λ (n : ℕ). cond (eqb n 0) (notedDone call ledger) ledger) (number-told p call)
+
+  -- a press taken straight back
+  pub named-press-undone : (end : End) (value : ℕ) → numberGiven p (pushMove end l value) ≡ 0 → PoolUndone p ledger l (pushMove end l value) (popMove end l)
+  named-press-undone end value z = named (press-undone xor-lawful l end value (sym (number-told p (pushMove end l value)) ∙ z))
+
+  -- a pop pushed back
+  pub named-lift-undone : {lists : ℕ} {shares limits : List ℕ} → PoolTrace lists shares limits p ledger → (end : End) → numberGiven p (popMove end l) ≡ 0
+      → PoolUndone p ledger l (popMove end l) (pushMove end l (handedOut p end l))
+  named-lift-undone t Front z = named (lift-undone xor-lawful l (pool-trace t) Front z)
+  named-lift-undone t Back z = named (lift-undone xor-lawful l (pool-trace t) Back z)

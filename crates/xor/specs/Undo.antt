@@ -1,0 +1,58 @@
+-- 02 a) of the calls by name: what it is for a pop to take the push before it straight back, and for a push to put back what the pop before it took.
+use mathlib.Core.Path.{_≡_}
+use mathlib.Core.List.{List}
+use Prim.Native.Nat.{ℕ}
+use Rattle.books.specs.declared.Book.{Book}
+use Rattle.books.specs.declared.Answer.{Answer}
+use Rattle.books.specs.declared.Popped.{Popped}
+use Rattle.books.specs.Outcome.{Outcome}
+use Rattle.shapes.specs.declared.End.{End}
+use Rattle.shapes.specs.declared.End.the-variants.{Front, Back}
+use Rattle.shapes.specs.Moves.{Move}
+use Rattle.shapes.specs.Ledger.{Ledger, onePair}
+use Rattle.engines.specs.Moves.{State}
+use Rattle.engines.specs.Undo.{SameHoldings}
+use Rattle.xor.specs.Engine.{xor}
+use Rattle.xor.specs.Moves.{Pool, stateOf, poolLeft, poolPopped, numberGiven, poolAfter, notedBy}
+use Rattle.xor.specs.Ten.{popBackOf, popFrontOf}
+
+module _ (links values : List ℕ) (b : Book) where
+  -- "a pop at the same end shall return the value and leave links, values and book as before": every cell and every field
+  pub record TakenBack (value : ℕ) (r : Outcome Popped) : Type 0 where
+    pub number : r .answer .given .refusal .number ≡ 0
+    pub handed : r .answer .given .value ≡ value
+    pub sameLinks : r .links ≡ links
+    pub sameValues : r .values ≡ values
+    pub sameBook : r .answer .book ≡ b
+
+  -- "pushing it back at that end is never refused and restores everything"
+  pub record PutBack (r : Outcome Answer) : Type 0 where
+    pub number : r .answer .refusal .number ≡ 0
+    pub sameLinks : r .links ≡ links
+    pub sameValues : r .values ≡ values
+    pub sameBook : r .answer .book ≡ b
+
+  -- the weaker law of each: it is done, and each list's sequence of values, each length and the number of free slots are as before
+  abbrev before : State xor
+  before = stateOf (record { links = links; values = values; book = b })
+
+  pub record TakenHeld (value : ℕ) (r : Outcome Popped) : Type 0 where
+    pub number : r .answer .given .refusal .number ≡ 0
+    pub handed : r .answer .given .value ≡ value
+    pub holdings : SameHoldings xor before (stateOf (poolPopped r))
+
+  pub record PutHeld (r : Outcome Answer) : Type 0 where
+    pub number : r .answer .refusal .number ≡ 0
+    pub holdings : SameHoldings xor before (stateOf (poolLeft r))
+
+-- what a pop at either end hands out
+abbrev pub handedOut : Pool → End → ℕ → ℕ
+handedOut p Front l = popFrontOf (p .links) (p .values) (p .book) l .answer .given .value
+handedOut p Back l = popBackOf (p .links) (p .values) (p .book) l .answer .given .value
+
+-- in a trace of the calls by name, a call and the one that takes it back: both are done, the pool with its book is as it was, and the ledger notes one push and one pop more of list l while every list holds the same
+pub record PoolUndone (p : Pool) (ledger : Ledger) (l : ℕ) (call back : Move) : Type 0 where
+  pub done : numberGiven p call ≡ 0
+  pub doneToo : numberGiven (poolAfter p call) back ≡ 0
+  pub samePool : poolAfter (poolAfter p call) back ≡ p
+  pub account : notedBy (poolAfter p call) back (notedBy p call ledger) ≡ onePair l ledger
