@@ -30,6 +30,7 @@ pub mod Popping
 pub mod Upstream
 pub mod Traces
 pub mod Undo
+pub mod SameHoldings
 pub mod UndoTraces
 pub mod Rows
 -- the computed cases

@@ -17,7 +17,7 @@ use Rattle.shapes.specs.Ends.{joined, contents}
 use Rattle.shapes.specs.Shape.{Shape, chainAt, put, lacks, Room}
 use Rattle.shapes.specs.Changes.{OtherEntries}
 use Rattle.shapes.proofs.Ends.{length-joined}
-use Rattle.shapes.proofs.Shape.{lacks-set, lacks-shares}
+use Rattle.shapes.proofs.Shape.{lacks-set, lacks-told}
 use Rattle.engines.specs.Engine.{Engine}
 use Rattle.engines.specs.Sound.{SoundBook}
 use Rattle.engines.specs.Laws.{Lawful}
@@ -42,6 +42,17 @@ put-back s l xs fs = λ i. record { chains = (set-set (s .chains) l xs (chainAt 
 cell-back : (values : List ℕ) (x v : ℕ) {w : ℕ} → cell values x ≡ w → set (set values x v) x w ≡ values
 cell-back values x v {w} e = set-set values x v w ∙ ap (set values x) (sym e) ∙ set-getD values x 0
 
+-- the law leaves no choice: two results that both meet it are the same
+pub undone-one : {E : Engine} {st : State E} {value : ℕ} {r r′ : Called E} → Undone E st value r → Undone E st value r′ → r ≡ r′
+undone-one U W =
+    λ i. record {
+      number = (U .number ∙ sym (W .number)) i;
+      value = (U .handed ∙ sym (W .handed)) i;
+      book = (U .sameBook ∙ sym (W .sameBook)) i;
+      links = (U .sameLinks ∙ sym (W .sameLinks)) i;
+      values = (U .sameValues ∙ sym (W .sameValues)) i;
+    }
+
 -- ---- the stronger law implies the weaker
 
 module _ {E : Engine} {st : State E} {value : ℕ} {r : Called E} (U : Undone E st value r) where
@@ -54,7 +65,7 @@ module _ {E : Engine} {st : State E} {value : ℕ} {r : Called E} (U : Undone E 
         number = U .number;
         handed = U .handed;
         holdings = subst (λ (t : State E). SameHoldings E st t) (sym undone-left)
-            (record { was = s; wasSound = S; is = s; isSound = S; lists = refl; sequence = λ l h. refl; lengths = λ l h. refl; free = refl });
+            (record { was = s; wasSound = S; is = s; isSound = S; lists = refl; granted = λ l h. (refl, refl); sequence = λ l h. refl; lengths = λ l h. refl; free = refl });
       }
 
 module _ {E : Engine} (L : Lawful E) where
@@ -172,7 +183,7 @@ module _ {E : Engine} (L : Lawful E) where
             lacking =
                 omega (
                   arith,
-                  lacks-shares es′ es (t .chains) as-many share-at,
+                  lacks-told es′ es (t .chains) (t .chains) as-many (λ k h. (share-at k h, refl)),
                   ap (λ (ds : List Entry). lacks ds (t .chains)) (set-getD es l zeroEntry),
                   lacks-set es (s .chains) l (entryAt es l) (Q .rest) (S .pool .lists) (listed S l (Q .listed)) refl,
                 )
@@ -199,11 +210,15 @@ module _ {E : Engine} (L : Lawful E) where
             P : Pushes E (lifted .links) (lifted .values) (lifted .book) end l taken t (pushAt E lifted end l taken)
             P = push-of lifted l end (Q .sound) taken done
 
+            -- the slot that the push takes is the one that the pop released
+            both : P .slot ∷ P .rest ≡ Q .slot ∷ s .idle
+            both = sym (P .first)
+
             same : P .slot ≡ Q .slot
-            same = let both : P .slot ∷ P .rest ≡ Q .slot ∷ s .idle = sym (P .first) in cc
+            same = cc both
 
             rest : P .rest ≡ s .idle
-            rest = let both : P .slot ∷ P .rest ≡ Q .slot ∷ s .idle = sym (P .first) in cc
+            rest = cc both
 
             shape : put t l (joined end (P .slot) (chainAt t l)) (P .rest) ≡ s
             shape = (λ i. put t l (joined end (same i) (chain i)) (rest i)) ∙ (λ i. put t l (sym (Q .last) i) (s .idle)) ∙ put-back s l (Q .rest) (Q .slot ∷ s .idle)

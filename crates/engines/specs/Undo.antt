@@ -3,6 +3,7 @@ use mathlib.Core.Path.{_≡_}
 use mathlib.Core.List.{List}
 use Prim.Native.Nat.{ℕ, _<_}
 use lib.ListN.{length}
+use Rattle.books.specs.Book.{entryAt}
 use Rattle.shapes.specs.Ends.{contents}
 use Rattle.shapes.specs.Shape.{Shape, chainAt}
 use Rattle.shapes.specs.Moves.{Move}
@@ -22,13 +23,15 @@ module _ (E : Engine) where
     pub sameValues : r .values ≡ before .values
     pub sameBook : r .book ≡ before .book
 
-  -- both are sound, with as many lists; each list has the same values in the same order, and there are as many free slots. Which slots they are is not said
+  -- both are sound, with as many lists of the same shares and limits; each list has the same values in the same order, and there are as many free slots. Which slots they are is not said
   pub record SameHoldings (before after : State E) : Type 0 where
     pub was : Shape
     pub wasSound : SoundBook E (before .links) (before .values) (before .book) was
     pub is : Shape
     pub isSound : SoundBook E (after .links) (after .values) (after .book) is
     pub lists : after .book .lists ≡ before .book .lists
+    pub granted : (l : ℕ) → l < before .book .lists
+        → (entryAt (after .book .entries) l .share ≡ entryAt (before .book .entries) l .share) × (entryAt (after .book .entries) l .limit ≡ entryAt (before .book .entries) l .limit)
     pub sequence : (l : ℕ) → l < before .book .lists → contents (after .values) (chainAt is l) ≡ contents (before .values) (chainAt was l)
     pub lengths : (l : ℕ) → l < before .book .lists → length (chainAt is l) ≡ length (chainAt was l)
     pub free : length (is .idle) ≡ length (was .idle)

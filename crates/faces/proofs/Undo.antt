@@ -9,23 +9,27 @@ use Rattle.books.specs.declared.Book.{Book}
 use Rattle.books.specs.declared.Answer.{Answer}
 use Rattle.books.specs.declared.Popped.{Popped}
 use Rattle.books.specs.Book.{wordsOf}
-use Rattle.books.specs.Outcome.{Outcome}
+use Rattle.books.specs.Outcome.{Outcome, outcome}
 use Rattle.books.specs.Words.{bookFrom}
 use Rattle.books.proofs.Flat.{words-kept}
 use Rattle.shapes.specs.declared.End.{End}
 use Rattle.shapes.specs.declared.End.the-variants.{Front, Back}
 use Rattle.shapes.specs.Moves.{Move, pushBack, pushFront, popBack, popFront, pushMove, popMove}
-use Rattle.shapes.specs.Ledger.{Ledger, notedDone}
-use Rattle.engines.specs.Moves.{State}
+use Rattle.shapes.specs.Ledger.{Ledger, notedDone, onePair}
+use Rattle.engines.specs.Moves.{State, numberOf}
 use Rattle.engines.specs.Undo.{SameHoldings}
+use Rattle.engines.proofs.SameHoldings.{same-numbers}
 use Rattle.xor.specs.Engine.{xor}
 use Rattle.xor.specs.Ten.{pushBackOf, pushFrontOf, popBackOf, popFrontOf}
 use Rattle.xor.specs.Moves.{Pool, stateOf, poolLeft, poolPopped, numberGiven, poolAfter, notedBy}
-use Rattle.xor.specs.Undo.{TakenBack, PutBack, TakenHeld, PutHeld, PoolUndone}
+use Rattle.xor.specs.Undo.{AsBefore, TakenBack, PutBack, TakenHeld, PutHeld, PoolUndone}
+use Rattle.xor.proofs.Plain.{number-told}
+use Rattle.xor.proofs.Lawful.{xor-lawful}
 use Rattle.xor.proofs.Undo.{push-back-undone, push-front-undone, pop-back-undone, pop-front-undone, push-back-held, push-front-held, pop-back-held, pop-front-held, named-press-undone, named-lift-undone}
-use Rattle.faces.specs.Face.{asChanged, asHanded, pushBackFace, pushFrontFace, popBackFace, popFrontFace}
-use Rattle.faces.specs.Trace.{Memory, memoryChanged, memoryHanded, returned, memoryAfter, notedFor, FaceTrace}
-use Rattle.faces.specs.Undo.{FaceTakenBack, FacePutBack, stateIn, FaceTakenHeld, FacePutHeld, handedTo, MemoryUndone}
+use Rattle.faces.specs.Words.{kept}
+use Rattle.faces.specs.Face.{Changed, changed, Handed, handed, asChanged, asHanded, pushBackFace, pushFrontFace, popBackFace, popFrontFace}
+use Rattle.faces.specs.Trace.{Memory, memoryChanged, memoryHanded, returned, memoryAfter, notedFor, FaceTrace, continued}
+use Rattle.faces.specs.Undo.{MemoryBefore, FaceTakenBack, FacePutBack, stateIn, HoldingsBefore, FaceTakenHeld, FacePutHeld, handedTo, MemoryUndone}
 use Rattle.faces.proofs.Kept.{kept-done}
 use Rattle.faces.proofs.Traces.{poolOf, AfterCall, memory-told, returned-told, face-trace}
 
@@ -36,12 +40,14 @@ module _ (links values words : List ℕ) (h : length words ≡ 34) (l : ℕ) whe
   m = record { links = links; values = values; words = words }
 
   -- what the call by name gives back, in the lent words
+  back : (number : ℕ) (lent : List ℕ) {p : Pool} → number ≡ 0 → AsBefore links values (bookFrom words) p → MemoryBefore links values words (record { links = p .links; values = p .values; words = kept number lent (p .book) })
+  back number lent z A = record { sameLinks = A .sameLinks; sameValues = A .sameValues; sameWords = kept-done number lent _ z ∙ ap wordsOf (A .sameBook) ∙ words-kept words h }
+
   taken : {value : ℕ} (lent : List ℕ) (r : Outcome Popped) → TakenBack links values (bookFrom words) value r → FaceTakenBack links values words value (asHanded lent r)
-  taken lent r T =
-      record { number = T .number; handed = T .handed; sameLinks = T .sameLinks; sameValues = T .sameValues; sameWords = kept-done _ lent _ (T .number) ∙ ap wordsOf (T .sameBook) ∙ words-kept words h }
+  taken lent r T = record { number = T .number; handed = T .handed; restored = back _ lent (T .number) (T .restored) }
 
   put : (lent : List ℕ) (r : Outcome Answer) → PutBack links values (bookFrom words) r → FacePutBack links values words (asChanged lent r)
-  put lent r T = record { number = T .number; sameLinks = T .sameLinks; sameValues = T .sameValues; sameWords = kept-done _ lent _ (T .number) ∙ ap wordsOf (T .sameBook) ∙ words-kept words h }
+  put lent r T = record { number = T .number; restored = back _ lent (T .number) (T .restored) }
 
   pub face-push-back-undone : (value : ℕ) → let r = pushBackFace links values words l value in
       r .answer .number ≡ 0 → FaceTakenBack links values words value (popBackFace (r .links) (r .values) (r .answer .book) l)
@@ -110,6 +116,39 @@ module _ (links values words : List ℕ) (h : length words ≡ 34) (l : ℕ) whe
       (subst (λ (p : Pool). PutHeld links values (bookFrom words) (pushFrontOf (p .links) (p .values) (p .book) l v)) (sym (memory-told m h (popFront l) .pool))
       (pop-front-held links values (bookFrom words) l z))
 
+-- the laws leave no choice: two results that both meet one are the same
+module _ {links values words : List ℕ} where
+  pub memory-before-one : {m n : Memory} → MemoryBefore links values words m → MemoryBefore links values words n → m ≡ n
+  memory-before-one P Q = λ i. record { links = (P .sameLinks ∙ sym (Q .sameLinks)) i; values = (P .sameValues ∙ sym (Q .sameValues)) i; words = (P .sameWords ∙ sym (Q .sameWords)) i }
+
+  pub face-taken-back-one : {value : ℕ} {r r′ : Outcome Handed} → FaceTakenBack links values words value r → FaceTakenBack links values words value r′ → r ≡ r′
+  face-taken-back-one P Q =
+      let e = memory-before-one (P .restored) (Q .restored) in
+      λ i. outcome (handed ((P .number ∙ sym (Q .number)) i) ((P .handed ∙ sym (Q .handed)) i) (e i .words)) (e i .links) (e i .values)
+
+  pub face-put-back-one : {r r′ : Outcome Changed} → FacePutBack links values words r → FacePutBack links values words r′ → r ≡ r′
+  face-put-back-one P Q =
+      let e = memory-before-one (P .restored) (Q .restored) in
+      λ i. outcome (changed ((P .number ∙ sym (Q .number)) i) (e i .words)) (e i .links) (e i .values)
+
+-- what the weaker laws are good for: every C function then returns what it would have returned before
+module _ (links values words : List ℕ) where
+  abbrev was : Memory
+  was = record { links = links; values = values; words = words }
+
+  held-returns : (m : Memory) → HoldingsBefore links values words m → (move : Move) → returned m move ≡ returned was move
+  held-returns m H move = sym (named was ∙ same-numbers xor-lawful H move ∙ sym (named m))
+    where
+      named : (n : Memory) → returned n move ≡ numberOf xor (stateIn n) move
+      named n = returned-told n move ∙ number-told (poolOf n) move
+
+  pub taken-held-returns : {value : ℕ} {r : Outcome Handed} → FaceTakenHeld links values words value r
+      → (r .answer .number ≡ 0) × (r .answer .value ≡ value) × ((move : Move) → returned (memoryHanded r) move ≡ returned was move)
+  taken-held-returns T = (T .number, T .handed, held-returns _ (T .holdings))
+
+  pub put-held-returns : {r : Outcome Changed} → FacePutHeld links values words r → (r .answer .number ≡ 0) × ((move : Move) → returned (memoryChanged r) move ≡ returned was move)
+  put-held-returns T = (T .number, held-returns _ (T .holdings))
+
 -- ---- in a trace
 
 -- memory with 34 words is told from the pool that it holds
@@ -150,3 +189,9 @@ module _ {lists : ℕ} {shares limits : List ℕ} {m : Memory} {ledger : Ledger}
   pub face-lift-undone : (end : End) → returned m (popMove end l) ≡ 0 → MemoryUndone m ledger l (popMove end l) (pushMove end l (handedTo m end l))
   face-lift-undone Front z = of-pool (face-trace t .0) (named-lift-undone (face-trace t .1) Front z)
   face-lift-undone Back z = of-pool (face-trace t .0) (named-lift-undone (face-trace t .1) Back z)
+
+  -- the trace goes on from the memory that it had
+  pub face-undone-trace : {call back : Move} → MemoryUndone m ledger l call back → FaceTrace lists shares limits m (onePair l ledger)
+  face-undone-trace {call} {back} U =
+      subst (λ (x : Memory). FaceTrace lists shares limits x (onePair l ledger)) (U .sameMemory)
+      (subst (λ (y : Ledger). FaceTrace lists shares limits (memoryAfter (memoryAfter m call) back) y) (U .account) (continued (continued t call) back))

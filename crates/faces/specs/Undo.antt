@@ -20,32 +20,35 @@ abbrev pub stateIn : Memory → State xor
 stateIn m = record { links = m .links; values = m .values; book = eight (bookFrom (m .words)) }
 
 module _ (links values words : List ℕ) where
-  -- it returns 0, the value stands at `value`, and every link, every value and every word of the book is as before
+  -- every link, every value and every word of the book is as before
+  pub record MemoryBefore (after : Memory) : Type 0 where
+    pub sameLinks : after .links ≡ links
+    pub sameValues : after .values ≡ values
+    pub sameWords : after .words ≡ words
+
+  -- a pop that takes the push before it back: it returns 0, and the value stands at `value`
   pub record FaceTakenBack (value : ℕ) (r : Outcome Handed) : Type 0 where
     pub number : r .answer .number ≡ 0
     pub handed : r .answer .value ≡ value
-    pub sameLinks : r .links ≡ links
-    pub sameValues : r .values ≡ values
-    pub sameWords : r .answer .book ≡ words
+    pub restored : MemoryBefore (memoryHanded r)
 
+  -- a push that puts back what the pop before it took: it returns 0
   pub record FacePutBack (r : Outcome Changed) : Type 0 where
     pub number : r .answer .number ≡ 0
-    pub sameLinks : r .links ≡ links
-    pub sameValues : r .values ≡ values
-    pub sameWords : r .answer .book ≡ words
+    pub restored : MemoryBefore (memoryChanged r)
 
   -- the weaker law of each: it returns 0, and each list's sequence of values, each length and the number of free slots are as before
-  abbrev before : State xor
-  before = stateIn (record { links = links; values = values; words = words })
+  abbrev pub HoldingsBefore : Memory → Type 0
+  HoldingsBefore after = SameHoldings xor (stateIn (record { links = links; values = values; words = words })) (stateIn after)
 
   pub record FaceTakenHeld (value : ℕ) (r : Outcome Handed) : Type 0 where
     pub number : r .answer .number ≡ 0
     pub handed : r .answer .value ≡ value
-    pub holdings : SameHoldings xor before (stateIn (memoryHanded r))
+    pub holdings : HoldingsBefore (memoryHanded r)
 
   pub record FacePutHeld (r : Outcome Changed) : Type 0 where
     pub number : r .answer .number ≡ 0
-    pub holdings : SameHoldings xor before (stateIn (memoryChanged r))
+    pub holdings : HoldingsBefore (memoryChanged r)
 
 -- what a pop at either end writes to `value`
 abbrev pub handedTo : Memory → End → ℕ → ℕ

@@ -43,10 +43,16 @@ lacks-part (d ∷ es) [] l n b = absurd (omega arith)
 lacks-part (d ∷ es) (ys ∷ cs) zero n b = omega arith
 lacks-part (d ∷ es) (ys ∷ cs) (suc l) n b = omega (arith, lacks-part es cs l (omega arith) (le-of-suc-le-suc b))
 
--- what the lists lack is told by their shares, and by no other field of their entries
-pub lacks-shares : (es es′ : List Entry) (cs : List (List ℕ)) → length es ≡ length es′ → ((l : ℕ) → l < length es → entryAt es l .share ≡ entryAt es′ l .share) → lacks es cs ≡ lacks es′ cs
-lacks-shares [] [] cs n h = refl
-lacks-shares [] (d ∷ es′) cs n h = absurd (omega arith)
-lacks-shares (e ∷ es) [] cs n h = absurd (omega arith)
-lacks-shares (e ∷ es) (d ∷ es′) [] n h = omega (arith, h 0 (omega arith), lacks-shares es es′ [] (omega arith) (λ l b. h (suc l) (omega arith)))
-lacks-shares (e ∷ es) (d ∷ es′) (xs ∷ cs) n h = omega (arith, ap (λ k. k - length xs) (h 0 (omega arith)), lacks-shares es es′ cs (omega arith) (λ l b. h (suc l) (omega arith)))
+-- what the lists lack is told by their shares and their lengths, and by nothing else
+pub lacks-told : (es es′ : List Entry) (cs cs′ : List (List ℕ)) → length es ≡ length es′
+    → ((l : ℕ) → l < length es → (entryAt es l .share ≡ entryAt es′ l .share) × (length (getD cs l []) ≡ length (getD cs′ l []))) → lacks es cs ≡ lacks es′ cs′
+lacks-told [] [] cs cs′ n h = refl
+lacks-told [] (d ∷ es′) cs cs′ n h = absurd (omega arith)
+lacks-told (e ∷ es) [] cs cs′ n h = absurd (omega arith)
+lacks-told (e ∷ es) (d ∷ es′) [] [] n h = omega (arith, h 0 (omega arith) .0, lacks-told es es′ [] [] (omega arith) (λ l b. h (suc l) (omega arith)))
+lacks-told (e ∷ es) (d ∷ es′) [] (ys ∷ cs′) n h = omega (arith, h 0 (omega arith), lacks-told es es′ [] cs′ (omega arith) (λ l b. h (suc l) (omega arith)))
+lacks-told (e ∷ es) (d ∷ es′) (xs ∷ cs) [] n h = omega (arith, h 0 (omega arith), lacks-told es es′ cs [] (omega arith) (λ l b. h (suc l) (omega arith)))
+lacks-told (e ∷ es) (d ∷ es′) (xs ∷ cs) (ys ∷ cs′) n h =
+    let (p, q) = h 0 (omega arith) in
+    let one : e .share - length xs ≡ d .share - length ys = λ i. p i - q i in
+    omega (arith, one, lacks-told es es′ cs cs′ (omega arith) (λ l b. h (suc l) (omega arith)))

@@ -8,6 +8,7 @@ use Rattle.books.specs.declared.Book.{Book}
 use Rattle.books.specs.declared.Answer.{Answer}
 use Rattle.books.specs.declared.Popped.{Popped}
 use Rattle.books.specs.Book.{AnyBook, bookOf}
+use Rattle.books.specs.Outcome.{Outcome, outcome}
 use Rattle.shapes.specs.declared.End.{End}
 use Rattle.shapes.specs.declared.End.the-variants.{Front, Back}
 use Rattle.shapes.specs.Moves.{Move, pushBack, pushFront, popBack, popFront, pushMove, popMove}
@@ -21,8 +22,8 @@ use Rattle.engines.proofs.Undo.{push-undone, pop-undone, push-held, pop-held}
 use Rattle.engines.proofs.UndoTraces.{press-undone, lift-undone}
 use Rattle.xor.specs.Engine.{xor}
 use Rattle.xor.specs.Ten.{asAnswer, asPopped, pushBackOf, pushFrontOf, popBackOf, popFrontOf}
-use Rattle.xor.specs.Moves.{Pool, stateOf, poolLeft, poolPopped, numberGiven, poolAfter, notedBy, PoolTrace}
-use Rattle.xor.specs.Undo.{TakenBack, PutBack, TakenHeld, PutHeld, handedOut, PoolUndone}
+use Rattle.xor.specs.Moves.{Pool, stateOf, poolLeft, poolPopped, numberGiven, poolAfter, notedBy, PoolTrace, called}
+use Rattle.xor.specs.Undo.{AsBefore, TakenBack, PutBack, TakenHeld, PutHeld, handedOut, PoolUndone}
 use Rattle.xor.proofs.Plain.{number-told, after-told}
 use Rattle.xor.proofs.Traces.{pool-trace}
 use Rattle.xor.proofs.Lawful.{xor-lawful}
@@ -31,16 +32,19 @@ module _ (links values : List ℕ) (b : Book) (l : ℕ) where
   abbrev p : Pool
   p = record { links = links; values = values; book = b }
 
+  as-before : {value : ℕ} {r : Called xor} → Undone xor (stateOf p) value r → AsBefore links values b (poolLeft (asAnswer r))
+  as-before W = record { sameLinks = W .sameLinks; sameValues = W .sameValues; sameBook = ap (λ (x : AnyBook). bookOf x) (W .sameBook) }
+
   -- from the state that a call over any engine leaves to the pool that the call by name leaves
   taken : {value : ℕ} (end : End) (m : Move) → Undone xor (stateOf p) value (popAt xor (after xor (stateOf p) m) end l) → TakenBack links values b value (asPopped (popAt xor (stateOf (poolAfter p m)) end l))
   taken {value} end m U =
       let W = subst (λ (st : State xor). Undone xor (stateOf p) value (popAt xor st end l)) (sym (after-told p m)) U in
-      record { number = W .number; handed = W .handed; sameLinks = W .sameLinks; sameValues = W .sameValues; sameBook = ap (λ (x : AnyBook). bookOf x) (W .sameBook) }
+      record { number = W .number; handed = W .handed; restored = as-before W }
 
   put : (value : ℕ) (end : End) (m : Move) → Undone xor (stateOf p) 0 (pushAt xor (after xor (stateOf p) m) end l value) → PutBack links values b (asAnswer (pushAt xor (stateOf (poolAfter p m)) end l value))
   put value end m U =
       let W = subst (λ (st : State xor). Undone xor (stateOf p) 0 (pushAt xor st end l value)) (sym (after-told p m)) U in
-      record { number = W .number; sameLinks = W .sameLinks; sameValues = W .sameValues; sameBook = ap (λ (x : AnyBook). bookOf x) (W .sameBook) }
+      record { number = W .number; restored = as-before W }
 
   pub push-back-undone : (value : ℕ) → let r = pushBackOf links values b l value in
       r .answer .refusal .number ≡ 0 → TakenBack links values b value (popBackOf (r .links) (r .values) (r .answer .book) l)
@@ -57,6 +61,21 @@ module _ (links values : List ℕ) (b : Book) (l : ℕ) where
   pub pop-front-undone : let r = popFrontOf links values b l in
       r .answer .given .refusal .number ≡ 0 → PutBack links values b (pushFrontOf (r .links) (r .values) (r .answer .book) l (r .answer .given .value))
   pop-front-undone z = put _ Front (popFront l) (pop-undone xor-lawful (stateOf p) l Front z)
+
+-- the laws leave no choice: two results that both meet one are the same
+module _ {links values : List ℕ} {b : Book} where
+  pub as-before-one : {p q : Pool} → AsBefore links values b p → AsBefore links values b q → p ≡ q
+  as-before-one P Q = λ i. record { links = (P .sameLinks ∙ sym (Q .sameLinks)) i; values = (P .sameValues ∙ sym (Q .sameValues)) i; book = (P .sameBook ∙ sym (Q .sameBook)) i }
+
+  pub taken-back-one : {value : ℕ} {r r′ : Outcome Popped} → TakenBack links values b value r → TakenBack links values b value r′ → r ≡ r′
+  taken-back-one P Q =
+      let e = as-before-one (P .restored) (Q .restored) in
+      λ i. outcome (record { given = record { refusal = record { number = (P .number ∙ sym (Q .number)) i }; value = (P .handed ∙ sym (Q .handed)) i }; book = e i .book }) (e i .links) (e i .values)
+
+  pub put-back-one : {r r′ : Outcome Answer} → PutBack links values b r → PutBack links values b r′ → r ≡ r′
+  put-back-one P Q =
+      let e = as-before-one (P .restored) (Q .restored) in
+      λ i. outcome (record { refusal = record { number = (P .number ∙ sym (Q .number)) i }; book = e i .book }) (e i .links) (e i .values)
 
 -- ---- the weaker law of each
 
@@ -139,3 +158,9 @@ module _ {p : Pool} {ledger : Ledger} {l : ℕ} where
       → PoolUndone p ledger l (popMove end l) (pushMove end l (handedOut p end l))
   named-lift-undone t Front z = named (lift-undone xor-lawful l (pool-trace t) Front z)
   named-lift-undone t Back z = named (lift-undone xor-lawful l (pool-trace t) Back z)
+
+  -- the trace goes on from the pool that it had
+  pub named-undone-trace : {lists : ℕ} {shares limits : List ℕ} {call back : Move} → PoolTrace lists shares limits p ledger → PoolUndone p ledger l call back → PoolTrace lists shares limits p (onePair l ledger)
+  named-undone-trace {lists} {shares} {limits} {call} {back} t U =
+      subst (λ (x : Pool). PoolTrace lists shares limits x (onePair l ledger)) (U .samePool)
+      (subst (λ (y : Ledger). PoolTrace lists shares limits (poolAfter (poolAfter p call) back) y) (U .account) (called (called t call) back))

@@ -10,40 +10,41 @@ use Rattle.shapes.specs.declared.End.{End}
 use Rattle.shapes.specs.declared.End.the-variants.{Front, Back}
 use Rattle.shapes.specs.Moves.{Move}
 use Rattle.shapes.specs.Ledger.{Ledger, onePair}
-use Rattle.engines.specs.Moves.{State}
 use Rattle.engines.specs.Undo.{SameHoldings}
 use Rattle.xor.specs.Engine.{xor}
 use Rattle.xor.specs.Moves.{Pool, stateOf, poolLeft, poolPopped, numberGiven, poolAfter, notedBy}
 use Rattle.xor.specs.Ten.{popBackOf, popFrontOf}
 
 module _ (links values : List ℕ) (b : Book) where
-  -- "a pop at the same end shall return the value and leave links, values and book as before": every cell and every field
+  -- "links, values and book as before": every cell and every field
+  pub record AsBefore (after : Pool) : Type 0 where
+    pub sameLinks : after .links ≡ links
+    pub sameValues : after .values ≡ values
+    pub sameBook : after .book ≡ b
+
+  -- "a pop at the same end shall return the value and leave links, values and book as before"
   pub record TakenBack (value : ℕ) (r : Outcome Popped) : Type 0 where
     pub number : r .answer .given .refusal .number ≡ 0
     pub handed : r .answer .given .value ≡ value
-    pub sameLinks : r .links ≡ links
-    pub sameValues : r .values ≡ values
-    pub sameBook : r .answer .book ≡ b
+    pub restored : AsBefore (poolPopped r)
 
   -- "pushing it back at that end is never refused and restores everything"
   pub record PutBack (r : Outcome Answer) : Type 0 where
     pub number : r .answer .refusal .number ≡ 0
-    pub sameLinks : r .links ≡ links
-    pub sameValues : r .values ≡ values
-    pub sameBook : r .answer .book ≡ b
+    pub restored : AsBefore (poolLeft r)
 
   -- the weaker law of each: it is done, and each list's sequence of values, each length and the number of free slots are as before
-  abbrev before : State xor
-  before = stateOf (record { links = links; values = values; book = b })
+  abbrev pub HeldBefore : Pool → Type 0
+  HeldBefore after = SameHoldings xor (stateOf (record { links = links; values = values; book = b })) (stateOf after)
 
   pub record TakenHeld (value : ℕ) (r : Outcome Popped) : Type 0 where
     pub number : r .answer .given .refusal .number ≡ 0
     pub handed : r .answer .given .value ≡ value
-    pub holdings : SameHoldings xor before (stateOf (poolPopped r))
+    pub holdings : HeldBefore (poolPopped r)
 
   pub record PutHeld (r : Outcome Answer) : Type 0 where
     pub number : r .answer .refusal .number ≡ 0
-    pub holdings : SameHoldings xor before (stateOf (poolLeft r))
+    pub holdings : HeldBefore (poolLeft r)
 
 -- what a pop at either end hands out
 abbrev pub handedOut : Pool → End → ℕ → ℕ
