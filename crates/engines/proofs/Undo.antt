@@ -95,7 +95,7 @@ module _ {E : Engine} (L : Lawful E) where
       abbrev pressed : State E
       pressed = left (pushAt E st end l value)
 
-      -- 02 a): "After a done push, a pop at the same end shall return the value and leave links, values and book as before"
+      -- 02 a), first half: of a push that is done
       pub push-undone : pushAt E st end l value .number ≡ 0 → Undone E st value (popAt E pressed end l)
       push-undone z = let (s, S, P) = push-done L (st .links) (st .values) (st .book) l end value z in go s S P
         where
@@ -139,7 +139,7 @@ module _ {E : Engine} (L : Lawful E) where
     abbrev taken : ℕ
     taken = popAt E st end l .value
 
-    -- 02 a): "In a sound pool, popping a value and pushing it back at that end is never refused and restores everything". Where the pop is done the pool is sound.
+    -- 02 a), second half: of a pop that is done, and so of a sound pool. The push is never refused.
     -- Not 6, since the list is now one shorter than its limit allows. Not 7, since the slot that the pop released is free besides those that covered what the lists lack: either the list is now below its share, or the lists lack no more than before
     pub pop-undone : popAt E st end l .number ≡ 0 → Undone E st 0 (pushAt E lifted end l taken)
     pop-undone z = let (s, S, Q) = pop-done L (st .links) (st .values) (st .book) l end z in go s S Q
@@ -231,8 +231,8 @@ module _ {E : Engine} (L : Lawful E) where
 
     -- ---- the weaker law of each: what the lists hold, and how many slots are free
 
-    pub push-held : (value : ℕ) → pushAt E st end l value .number ≡ 0 → HeldAgain E st value (popAt E (left (pushAt E st end l value)) end l)
-    push-held value z = let (s, S, P) = push-done L (st .links) (st .values) (st .book) l end value z in undone-held (push-undone value z) S
+    pub push-held-again : (value : ℕ) → pushAt E st end l value .number ≡ 0 → HeldAgain E st value (popAt E (left (pushAt E st end l value)) end l)
+    push-held-again value z = let (s, S, P) = push-done L (st .links) (st .values) (st .book) l end value z in undone-held (push-undone value z) S
 
-    pub pop-held : popAt E st end l .number ≡ 0 → HeldAgain E st 0 (pushAt E lifted end l taken)
-    pop-held z = let (s, S, Q) = pop-done L (st .links) (st .values) (st .book) l end z in undone-held (pop-undone z) S
+    pub pop-held-again : popAt E st end l .number ≡ 0 → HeldAgain E st 0 (pushAt E lifted end l taken)
+    pop-held-again z = let (s, S, Q) = pop-done L (st .links) (st .values) (st .book) l end z in undone-held (pop-undone z) S

@@ -15,7 +15,7 @@ use Rattle.engines.specs.Moves.{State, left, numberOf, after}
 use Rattle.engines.specs.Trace.{noted}
 
 module _ (E : Engine) where
-  -- the call is done, hands out the value, 0 for a push, and 02 a): leaves "links, values and book as before", every cell and every field
+  -- the call is done and hands out the value, 0 for a push; every link, every value and every field of the book is what it was
   pub record Undone (before : State E) (value : ℕ) (r : Called E) : Type 0 where
     pub number : r .number ≡ 0
     pub handed : r .value ≡ value

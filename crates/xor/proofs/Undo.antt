@@ -18,12 +18,12 @@ use Rattle.engines.specs.Moves.{State, left, numberOf, after}
 use Rattle.engines.specs.Trace.{noted}
 use Rattle.engines.specs.Undo.{Undone, SameHoldings, HeldAgain, UndoneNext}
 use Rattle.engines.proofs.After.{pushAt, popAt}
-use Rattle.engines.proofs.Undo.{push-undone, pop-undone, push-held, pop-held}
+use Rattle.engines.proofs.Undo.{push-undone, pop-undone, push-held-again, pop-held-again}
 use Rattle.engines.proofs.UndoTraces.{press-undone, lift-undone}
 use Rattle.xor.specs.Engine.{xor}
 use Rattle.xor.specs.Ten.{asAnswer, asPopped, pushBackOf, pushFrontOf, popBackOf, popFrontOf}
 use Rattle.xor.specs.Moves.{Pool, stateOf, poolLeft, poolPopped, numberGiven, poolAfter, notedBy, PoolTrace, called}
-use Rattle.xor.specs.Undo.{AsBefore, TakenBack, PutBack, TakenHeld, PutHeld, handedOut, PoolUndone}
+use Rattle.xor.specs.Undo.{AsBefore, TakenBack, PutBack, TakenHeld, PutHeld, handedAt, PoolUndone}
 use Rattle.xor.proofs.Plain.{number-told, after-told}
 use Rattle.xor.proofs.Traces.{pool-trace}
 use Rattle.xor.proofs.Lawful.{xor-lawful}
@@ -104,25 +104,25 @@ module _ (links values : List ℕ) (b : Book) (l : ℕ) where
       r .answer .refusal .number ≡ 0 → TakenHeld links values b value (popBackOf (r .links) (r .values) (r .answer .book) l)
   push-back-held value z =
       let m = pushBack l value in
-      popped-held q l Back m (after-told (poolAfter q m) (popBack l)) (push-held xor-lawful (stateOf q) l Back value z)
+      popped-held q l Back m (after-told (poolAfter q m) (popBack l)) (push-held-again xor-lawful (stateOf q) l Back value z)
 
   pub push-front-held : (value : ℕ) → let r = pushFrontOf links values b l value in
       r .answer .refusal .number ≡ 0 → TakenHeld links values b value (popFrontOf (r .links) (r .values) (r .answer .book) l)
   push-front-held value z =
       let m = pushFront l value in
-      popped-held q l Front m (after-told (poolAfter q m) (popFront l)) (push-held xor-lawful (stateOf q) l Front value z)
+      popped-held q l Front m (after-told (poolAfter q m) (popFront l)) (push-held-again xor-lawful (stateOf q) l Front value z)
 
   pub pop-back-held : let r = popBackOf links values b l in
       r .answer .given .refusal .number ≡ 0 → PutHeld links values b (pushBackOf (r .links) (r .values) (r .answer .book) l (r .answer .given .value))
   pop-back-held z =
       let v = popBackOf links values b l .answer .given .value in
-      pushed-held q l v Back (popBack l) (after-told (poolAfter q (popBack l)) (pushBack l v)) (pop-held xor-lawful (stateOf q) l Back z)
+      pushed-held q l v Back (popBack l) (after-told (poolAfter q (popBack l)) (pushBack l v)) (pop-held-again xor-lawful (stateOf q) l Back z)
 
   pub pop-front-held : let r = popFrontOf links values b l in
       r .answer .given .refusal .number ≡ 0 → PutHeld links values b (pushFrontOf (r .links) (r .values) (r .answer .book) l (r .answer .given .value))
   pop-front-held z =
       let v = popFrontOf links values b l .answer .given .value in
-      pushed-held q l v Front (popFront l) (after-told (poolAfter q (popFront l)) (pushFront l v)) (pop-held xor-lawful (stateOf q) l Front z)
+      pushed-held q l v Front (popFront l) (after-told (poolAfter q (popFront l)) (pushFront l v)) (pop-held-again xor-lawful (stateOf q) l Front z)
 
 -- ---- in a trace
 
@@ -155,7 +155,7 @@ module _ {p : Pool} {ledger : Ledger} {l : ℕ} where
 
   -- a pop pushed back
   pub named-lift-undone : {lists : ℕ} {shares limits : List ℕ} → PoolTrace lists shares limits p ledger → (end : End) → numberGiven p (popMove end l) ≡ 0
-      → PoolUndone p ledger l (popMove end l) (pushMove end l (handedOut p end l))
+      → PoolUndone p ledger l (popMove end l) (pushMove end l (handedAt p end l))
   named-lift-undone t Front z = named (lift-undone xor-lawful l (pool-trace t) Front z)
   named-lift-undone t Back z = named (lift-undone xor-lawful l (pool-trace t) Back z)
 

@@ -16,19 +16,19 @@ use Rattle.xor.specs.Moves.{Pool, stateOf, poolLeft, poolPopped, numberG
 use Rattle.xor.specs.Ten.{popBackOf, popFrontOf}
 
 module _ (links values : List ℕ) (b : Book) where
-  -- "links, values and book as before": every cell and every field
+  -- every link, every value and every field of the book is what it was
   pub record AsBefore (after : Pool) : Type 0 where
     pub sameLinks : after .links ≡ links
     pub sameValues : after .values ≡ values
     pub sameBook : after .book ≡ b
 
-  -- "a pop at the same end shall return the value and leave links, values and book as before"
+  -- the pop that follows a push: it is done, hands out the value that was pushed, and leaves all as before the push
   pub record TakenBack (value : ℕ) (r : Outcome Popped) : Type 0 where
     pub number : r .answer .given .refusal .number ≡ 0
     pub handed : r .answer .given .value ≡ value
     pub restored : AsBefore (poolPopped r)
 
-  -- "pushing it back at that end is never refused and restores everything"
+  -- the push that follows a pop: it is done, and leaves all as before the pop
   pub record PutBack (r : Outcome Answer) : Type 0 where
     pub number : r .answer .refusal .number ≡ 0
     pub restored : AsBefore (poolLeft r)
@@ -47,9 +47,9 @@ module _ (links values : List ℕ) (b : Book) where
     pub holdings : HeldBefore (poolLeft r)
 
 -- what a pop at either end hands out
-abbrev pub handedOut : Pool → End → ℕ → ℕ
-handedOut p Front l = popFrontOf (p .links) (p .values) (p .book) l .answer .given .value
-handedOut p Back l = popBackOf (p .links) (p .values) (p .book) l .answer .given .value
+abbrev pub handedAt : Pool → End → ℕ → ℕ
+handedAt p Front l = popFrontOf (p .links) (p .values) (p .book) l .answer .given .value
+handedAt p Back l = popBackOf (p .links) (p .values) (p .book) l .answer .given .value
 
 -- in a trace of the calls by name, a call and the one that takes it back: both are done, the pool with its book is as it was, and the ledger notes one push and one pop more of list l while every list holds the same
 pub record PoolUndone (p : Pool) (ledger : Ledger) (l : ℕ) (call back : Move) : Type 0 where
