@@ -75,7 +75,7 @@ pub record CTurn : Type 0 where
 abbrev cTurn : Move → ℕ → Memory → CTurn
 cTurn move number left = record { move = move; number = number; left = left }
 
-abbrev cP2 : Memory
+abbrev pub cP2 : Memory
 cP2 = memory (six 0 1 1 1 5 0) (six 0 20 30 10 0 0) (twoWords 3 2 0 0 4)
 
 abbrev pub cP3 : Memory
@@ -142,6 +142,39 @@ cRefused =
     ∷ cTurn (readForward 0 (replicate 6 7) 0) 3 cDamaged
     ∷ cTurn (readBackward 0 (replicate 6 7) 0) 3 cDamaged
     ∷ cTurn (clear 0) 3 cDamaged
+    ∷ []
+
+-- ---- 02 a): presses taken straight back, and pops pushed back, from P2 on
+
+abbrev pub cUndone : List CTurn
+cUndone =
+    cTurn (pushBack 0 40) 0 cP3
+    ∷ cTurn (popBack 0) 0 cP2
+    ∷ cTurn (pushFront 0 70) 0 (memory (six 0 1 1 5 3 0) (six 0 20 30 10 70 0) (twoWords 4 2 0 0 5))
+    ∷ cTurn (popFront 0) 0 cP2
+    -- the list has its share, and the one free slot is another's: it gets 7, and yet what was popped goes back
+    ∷ cTurn (pushBack 0 40) 0 cP3
+    ∷ cTurn (pushBack 0 50) 7 cP3
+    ∷ cTurn (popBack 0) 0 cP2
+    ∷ cTurn (pushBack 0 40) 0 cP3
+    ∷ cTurn (popFront 0) 0 (memory (six 0 2 5 5 2 0) (six 0 20 30 0 40 0) (twoWords 1 4 0 0 3))
+    ∷ cTurn (pushFront 0 10) 0 cP3
+    -- the last free slot, and a list that is empty
+    ∷ cTurn (pushFront 1 60) 0 cP5
+    ∷ cTurn (popFront 1) 0 cP3
+    ∷ []
+
+-- list 1 at its limit: it gets 6, and yet what was popped goes back
+abbrev pub cFull : Memory
+cFull = memory (six 0 2 2 2 5 0) (six 0 11 12 13 0 0) (twoWords 0 0 1 3 4)
+
+abbrev pub cAtLimit : List CTurn
+cAtLimit =
+    cTurn (pushBack 1 14) 6 cFull
+    ∷ cTurn (popBack 1) 0 (memory (six 0 2 1 4 5 0) (six 0 11 12 0 0 0) (twoWords 0 0 1 2 3))
+    ∷ cTurn (pushBack 1 13) 0 cFull
+    ∷ cTurn (popFront 1) 0 (memory (six 0 4 3 2 5 0) (six 0 0 12 13 0 0) (twoWords 0 0 2 3 1))
+    ∷ cTurn (pushFront 1 11) 0 cFull
     ∷ []
 
 -- does each return its number and leave its memory?
