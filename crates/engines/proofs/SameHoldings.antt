@@ -87,8 +87,8 @@ module _ {E : Engine} (L : Lawful E) {st t : State E} (H : SameHoldings E st t) 
       go (no d) (no f) = n-else d f ∙ sym (k-else (λ e. d (six .1 e)) (λ e. f (seven .1 e)))
 
   module _ (l : ℕ) where
-    push-same : (end : End) (value : ℕ) → pushAt E st end l value .number ≡ pushAt E t end l value .number
-    push-same end value = go (decLt l (st .book .lists))
+    pub push-number-same : (end : End) (value : ℕ) → pushAt E st end l value .number ≡ pushAt E t end l value .number
+    push-number-same end value = go (decLt l (st .book .lists))
       where
         go : Dec (l < st .book .lists) → pushAt E st end l value .number ≡ pushAt E t end l value .number
         go (no d) = unlisted S (beyond d .0) (push-given L (st .links) (st .values) (st .book) l end value) ∙ sym (unlisted T (beyond d .1) (push-given L (t .links) (t .values) (t .book) l end value))
@@ -103,8 +103,8 @@ module _ {E : Engine} (L : Lawful E) {st t : State E} (H : SameHoldings E st t) 
             (push-else L S l b end value)
             (push-else L T l (there b) end value)
 
-    pop-same : (end : End) → popAt E st end l .number ≡ popAt E t end l .number
-    pop-same end = go (decLt l (st .book .lists))
+    pub pop-number-same : (end : End) → popAt E st end l .number ≡ popAt E t end l .number
+    pop-number-same end = go (decLt l (st .book .lists))
       where
         go : Dec (l < st .book .lists) → popAt E st end l .number ≡ popAt E t end l .number
         go (no d) = unlisted S (beyond d .0) (pop-given L (st .links) (st .values) (st .book) l end) ∙ sym (unlisted T (beyond d .1) (pop-given L (t .links) (t .values) (t .book) l end))
@@ -114,9 +114,9 @@ module _ {E : Engine} (L : Lawful E) {st t : State E} (H : SameHoldings E st t) 
             some (yes h) = pop-zero L S l b end .1 h ∙ sym (pop-zero L T l (there b) end .1 (omega (arith, H .lengths l b)))
             some (no d) = pop-five L S l b end .1 (omega arith) ∙ sym (pop-five L T l (there b) end .1 (omega (arith, H .lengths l b)))
 
-    read-same : (end : End) (buffer : List ℕ) (at : ℕ)
+    pub read-number-same : (end : End) (buffer : List ℕ) (at : ℕ)
         → readCall E (st .links) (st .values) (st .book) l end buffer at .answer .refusal .number ≡ readCall E (t .links) (t .values) (t .book) l end buffer at .answer .refusal .number
-    read-same end buffer at = go (decLt l (st .book .lists))
+    read-number-same end buffer at = go (decLt l (st .book .lists))
       where
         n : ℕ
         n = readCall E (st .links) (st .values) (st .book) l end buffer at .answer .refusal .number
@@ -138,15 +138,15 @@ module _ {E : Engine} (L : Lawful E) {st t : State E} (H : SameHoldings E st t) 
             small (yes e) = e ∙ sym (read-eight L T l (there b) end buffer at .1 (to (read-eight L S l b end buffer at .0 e)))
             small (no d) = read-zero L S l b end buffer at .1 (λ w. d (read-eight L S l b end buffer at .1 w)) ∙ sym (read-zero L T l (there b) end buffer at .1 (λ w. d (read-eight L S l b end buffer at .1 (from w))))
 
-    length-same : numberOf E st (askLength l) ≡ numberOf E t (askLength l)
-    length-same = go (decLt l (st .book .lists))
+    length-number-same : numberOf E st (askLength l) ≡ numberOf E t (askLength l)
+    length-number-same = go (decLt l (st .book .lists))
       where
         go : Dec (l < st .book .lists) → numberOf E st (askLength l) ≡ numberOf E t (askLength l)
         go (no d) = unlisted S (beyond d .0) (length-given L (st .links) (st .values) (st .book) l) ∙ sym (unlisted T (beyond d .1) (length-given L (t .links) (t .values) (t .book) l))
         go (yes b) = length-zero L S l b ∙ sym (length-zero L T l (there b))
 
-    clear-same : numberOf E st (clear l) ≡ numberOf E t (clear l)
-    clear-same = go (decLt l (st .book .lists))
+    clear-number-same : numberOf E st (clear l) ≡ numberOf E t (clear l)
+    clear-number-same = go (decLt l (st .book .lists))
       where
         go : Dec (l < st .book .lists) → numberOf E st (clear l) ≡ numberOf E t (clear l)
         go (no d) = unlisted S (beyond d .0) (clear-given L (st .links) (st .values) (st .book) l) ∙ sym (unlisted T (beyond d .1) (clear-given L (t .links) (t .values) (t .book) l))
@@ -154,11 +154,11 @@ module _ {E : Engine} (L : Lawful E) {st t : State E} (H : SameHoldings E st t) 
 
   pub same-numbers : (m : Move) → numberOf E st m ≡ numberOf E t m
   same-numbers check = check-accepts L (st .links) (st .values) (st .book) .1 (_, S) ∙ sym (check-accepts L (t .links) (t .values) (t .book) .1 (_, T))
-  same-numbers (askLength l) = length-same l
-  same-numbers (pushBack l value) = push-same l Back value
-  same-numbers (pushFront l value) = push-same l Front value
-  same-numbers (popBack l) = pop-same l Back
-  same-numbers (popFront l) = pop-same l Front
-  same-numbers (readForward l buffer at) = read-same l Front buffer at
-  same-numbers (readBackward l buffer at) = read-same l Back buffer at
-  same-numbers (clear l) = clear-same l
+  same-numbers (askLength l) = length-number-same l
+  same-numbers (pushBack l value) = push-number-same l Back value
+  same-numbers (pushFront l value) = push-number-same l Front value
+  same-numbers (popBack l) = pop-number-same l Back
+  same-numbers (popFront l) = pop-number-same l Front
+  same-numbers (readForward l buffer at) = read-number-same l Front buffer at
+  same-numbers (readBackward l buffer at) = read-number-same l Back buffer at
+  same-numbers (clear l) = clear-number-same l
