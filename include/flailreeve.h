@@ -21,10 +21,11 @@
  * order of the numbers, and the first that applies is given. A REFUSED CALL writes 0 to `length`, `value` or `count`, where
  * it has one, and changes nothing else: not a link, not a value, not the book, not the buffer of a read.
  *
- * A BOUNCED KEY may be treated as if it had never been pressed. After a push that returned 0, a pop at the same end of that
- * list returns 0 with the value that was pushed, and every link, every value and every word of the book is as it was before
- * the push. After a pop that returned 0, a push of its value at the same end of that list returns 0, never 6 or 7, and all is
- * as it was before the pop. This holds where no other call changes the pool between the two.
+ * A BOUNCED KEY may be treated, as far as the pool and the book go, as if it had never been pressed. After a push that
+ * returned 0, a pop at the same end of that list returns 0 with the value that was pushed, and every link, every value and
+ * every word of the book is as it was before the push. After a pop that returned 0, a push of its value at the same end of
+ * that list returns 0, never 6 or 7, and all is as it was before the pop. This holds where nothing changes the pool or the
+ * book between the two. The value then stands where the pop wrote it, for the firmware to wipe.
  *
  * WHAT THE CALLER OWES. A call believes these, and no proof can see them; if one does not hold, the behaviour is undefined.
  * - No pointer is null, not even with a length of 0, and each is aligned: to 2 bytes for links, shares, limits, the book,

@@ -29,6 +29,7 @@ pub mod After
 pub mod Popping
 pub mod Upstream
 pub mod Traces
+pub mod Again
 pub mod Undo
 pub mod SameHoldings
 pub mod UndoTraces

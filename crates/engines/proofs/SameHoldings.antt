@@ -51,7 +51,7 @@ module _ {E : Engine} (L : Lawful E) {st t : State E} (H : SameHoldings E st t) 
 
   -- ---- every call gives the same number
 
-  -- where a list is there, it is here, as long, and with the same share and limit
+  -- both have the same lists
   there : {l : ℕ} → l < st .book .lists → l < t .book .lists
   there h = omega (arith, H .lists)
 

@@ -1,23 +1,16 @@
 -- 02 a), on any engine and at either end: a push taken straight back, and a pop pushed back, leave everything as it was.
 use mathlib.Core.Path.{_≡_, refl, sym, ap, subst, _∙_}
-use mathlib.Core.Logic.{_⊎_, inl, inr}
 use mathlib.Core.List.{List, [], _∷_}
-use Prim.Native.Nat.{ℕ, suc, _+_, _-_, _<_}
-use native.Mathlib.Decide.{ℕ-discrete, decLt}
+use Prim.Native.Nat.{ℕ, _<_}
 use native.Mathlib.Omega.{arith}
-use lib.ListN.{length, set, take}
-use lib.Seq.{getD-set-same, set-getD, length-take-le}
-use Rattle.books.specs.declared.Entry.{Entry}
-use Rattle.books.specs.Book.{wipeWord, zeroEntry, entryAt}
-use Rattle.chains.specs.Count.{count}
+use lib.ListN.{length, set}
+use lib.Seq.{getD-set-same, set-getD}
+use Rattle.books.specs.Book.{wipeWord}
 use Rattle.chains.specs.Chain.{cell}
-use Rattle.chains.proofs.Count.{hit-same}
 use Rattle.shapes.specs.declared.End.{End}
 use Rattle.shapes.specs.Ends.{joined, contents}
-use Rattle.shapes.specs.Shape.{Shape, chainAt, put, lacks, Room}
+use Rattle.shapes.specs.Shape.{Shape, chainAt, put}
 use Rattle.shapes.specs.Changes.{OtherEntries}
-use Rattle.shapes.proofs.Ends.{length-joined}
-use Rattle.shapes.proofs.Shape.{lacks-set, lacks-told}
 use Rattle.engines.specs.Engine.{Engine}
 use Rattle.engines.specs.Sound.{SoundBook}
 use Rattle.engines.specs.Laws.{Lawful}
@@ -25,13 +18,13 @@ use Rattle.engines.specs.Calls.{Called}
 use Rattle.engines.specs.Done.{Pushes, Pops}
 use Rattle.engines.specs.Moves.{State, left}
 use Rattle.engines.specs.Undo.{Undone, SameHoldings, HeldAgain}
-use Rattle.engines.proofs.Shape.{unique-book}
-use Rattle.engines.proofs.Found.{listed, entry-is, within}
+use Rattle.engines.proofs.Found.{listed}
 use Rattle.engines.proofs.Steps.{joined-one, contents-joined}
 use Rattle.engines.proofs.Book.{others-twice, state-one}
 use Rattle.engines.proofs.Outcomes.{push-done, pop-done}
-use Rattle.engines.proofs.Exactly.{pop-zero, push-zero}
+use Rattle.engines.proofs.Exactly.{pop-zero}
 use Rattle.engines.proofs.After.{pushAt, popAt}
+use Rattle.engines.proofs.Again.{slot-free, push-of, pop-of, push-leaves-one, pop-makes-room}
 use Rattle.engines.proofs.Popping.{set-set}
 
 -- list l becomes another, and then what it was
@@ -69,24 +62,12 @@ module _ {E : Engine} {st : State E} {value : ℕ} {r : Called E} (U : Undone E 
       }
 
 module _ {E : Engine} (L : Lawful E) where
-  -- two sound states of one shape are one
+  -- two sound states of one shape, with the same values and the rest of the book the same, are one
   same-left : {st : State E} {value : ℕ} {r : Called E} {s : Shape} (l : ℕ) → l < st .book .lists → r .number ≡ 0 → r .value ≡ value
       → SoundBook E (st .links) (st .values) (st .book) s → SoundBook E (r .links) (r .values) (r .book) s → r .values ≡ st .values → OtherEntries (st .book) l (r .book) → Undone E st value r
   same-left {st} {value} {r} l below z v S T same O =
       let e : left r ≡ st = state-one L {st = st} {t = left r} l below S T same O in
       record { number = z; handed = v; sameLinks = ap (λ (x : State E). x .links) e; sameValues = same; sameBook = ap (λ (x : State E). x .book) e }
-
-  module _ (st : State E) (l : ℕ) (end : End) {s : Shape} (S : SoundBook E (st .links) (st .values) (st .book) s) where
-    -- what a done push and a done pop mean on the shape that the pool is known to have
-    push-of : (value : ℕ) → pushAt E st end l value .number ≡ 0 → Pushes E (st .links) (st .values) (st .book) end l value s (pushAt E st end l value)
-    push-of value z =
-        let (t, T, P) = push-done L (st .links) (st .values) (st .book) l end value z in
-        subst (λ (u : Shape). Pushes E (st .links) (st .values) (st .book) end l value u (pushAt E st end l value)) (unique-book L T S) P
-
-    pop-of : popAt E st end l .number ≡ 0 → Pops E (st .links) (st .values) (st .book) end l s (popAt E st end l)
-    pop-of z =
-        let (t, T, P) = pop-done L (st .links) (st .values) (st .book) l end z in
-        subst (λ (u : Shape). Pops E (st .links) (st .values) (st .book) end l u (popAt E st end l)) (unique-book L T S) P
 
   module _ (st : State E) (l : ℕ) (end : End) where
     -- ---- a push taken straight back
@@ -100,7 +81,7 @@ module _ {E : Engine} (L : Lawful E) where
       push-undone z = let (s, S, P) = push-done L (st .links) (st .values) (st .book) l end value z in go s S P
         where
           go : (s : Shape) → SoundBook E (st .links) (st .values) (st .book) s → Pushes E (st .links) (st .values) (st .book) end l value s (pushAt E st end l value) → Undone E st value (popAt E pressed end l)
-          go s S P = same-left l (P .listed) gone given S there (Q .cells ∙ (λ i. set (P .cells i) (same .0 i) wipeWord) ∙ cell-back (st .values) (P .slot) value was) (others-twice (P .book) (Q .book))
+          go s S P = same-left l (P .listed) (Q .number) given S there (Q .cells ∙ (λ i. set (P .cells i) (same .0 i) wipeWord) ∙ cell-back (st .values) (P .slot) value was) (others-twice (P .book) (Q .book))
             where
               xs : List ℕ
               xs = joined end (P .slot) (chainAt s l)
@@ -108,11 +89,8 @@ module _ {E : Engine} (L : Lawful E) where
               chain : chainAt (put s l xs (P .rest)) l ≡ xs
               chain = getD-set-same (s .chains) l xs [] (omega (arith, S .pool .lists, listed S l (P .listed)))
 
-              gone : popAt E pressed end l .number ≡ 0
-              gone = pop-zero L (P .sound) l (omega (arith, P .listed, P .book .sameCount)) end .1 (omega (arith, ap length chain, length-joined end (P .slot) (chainAt s l)))
-
               Q : Pops E (pressed .links) (pressed .values) (pressed .book) end l (put s l xs (P .rest)) (popAt E pressed end l)
-              Q = pop-of pressed l end (P .sound) gone
+              Q = pop-of L pressed l end (P .sound) (push-leaves-one L st l end value z)
 
               -- the slot that the pop releases is the one that the push took
               same : (Q .slot ≡ P .slot) × (Q .rest ≡ chainAt s l)
@@ -129,7 +107,7 @@ module _ {E : Engine} (L : Lawful E) where
 
               -- a free slot held the wipe word
               was : cell (st .values) (P .slot) ≡ wipeWord
-              was = S .pool .wiped (P .slot) (omega (arith, ap (count (P .slot)) (P .first), hit-same (P .slot)))
+              was = S .pool .wiped (P .slot) (slot-free P)
 
     -- ---- a pop pushed back
 
@@ -139,76 +117,21 @@ module _ {E : Engine} (L : Lawful E) where
     abbrev taken : ℕ
     taken = popAt E st end l .value
 
-    -- 02 a), second half: of a pop that is done, and so of a sound pool. The push is never refused.
-    -- Not 6, since the list is now one shorter than its limit allows. Not 7, since the slot that the pop released is free besides those that covered what the lists lack: either the list is now below its share, or the lists lack no more than before
+    -- 02 a), second half: of a pop that is done, and so of a sound pool. `pop-makes-room` says why the push is never refused
     pub pop-undone : popAt E st end l .number ≡ 0 → Undone E st 0 (pushAt E lifted end l taken)
     pop-undone z = let (s, S, Q) = pop-done L (st .links) (st .values) (st .book) l end z in go s S Q
       where
         go : (s : Shape) → SoundBook E (st .links) (st .values) (st .book) s → Pops E (st .links) (st .values) (st .book) end l s (popAt E st end l) → Undone E st 0 (pushAt E lifted end l taken)
-        go s S Q = same-left l (Q .listed) done (P .noValue) S there (P .cells ∙ (λ i. set (Q .cells i) (same i) taken) ∙ cell-back (st .values) (Q .slot) wipeWord was) (others-twice (Q .book) (P .book))
+        go s S Q = same-left l (Q .listed) (P .number) (P .noValue) S there (P .cells ∙ (λ i. set (Q .cells i) (same i) taken) ∙ cell-back (st .values) (Q .slot) wipeWord was) (others-twice (Q .book) (P .book))
           where
             t : Shape
             t = put s l (Q .rest) (Q .slot ∷ s .idle)
 
-            es : List Entry
-            es = take (st .book .lists) (st .book .entries)
-
-            es′ : List Entry
-            es′ = take (lifted .book .lists) (lifted .book .entries)
-
-            below : l < lifted .book .lists
-            below = omega (arith, Q .listed, Q .book .sameCount)
-
             chain : chainAt t l ≡ Q .rest
             chain = getD-set-same (s .chains) l (Q .rest) [] (omega (arith, S .pool .lists, listed S l (Q .listed)))
 
-            one-longer : length (chainAt s l) ≡ suc (length (Q .rest))
-            one-longer = ap length (Q .last) ∙ length-joined end (Q .slot) (Q .rest)
-
-            limit : entryAt es′ l .limit ≡ entryAt (st .book .entries) l .limit
-            limit = ap (λ (e : Entry). e .limit) (entry-is (Q .sound) l below) ∙ Q .book .limit
-
-            share : entryAt es′ l .share ≡ entryAt es l .share
-            share = ap (λ (e : Entry). e .share) (entry-is (Q .sound) l below) ∙ Q .book .share ∙ ap (λ (e : Entry). e .share) (sym (entry-is S l (Q .listed)))
-
-            -- every list has the share that it had
-            shares : (k : ℕ) → Dec (k ≡ l) → entryAt (lifted .book .entries) k .share ≡ entryAt (st .book .entries) k .share
-            shares k (yes d) = rw d (Q .book .share)
-            shares k (no d) = ap (λ (e : Entry). e .share) (Q .book .others k d)
-
-            as-many : length es′ ≡ length es
-            as-many = omega (arith, length-take-le (lifted .book .lists) (lifted .book .entries) (Q .sound .rules .there), length-take-le (st .book .lists) (st .book .entries) (S .rules .there), Q .book .sameCount)
-
-            lacking : lacks es′ (t .chains) + (entryAt es l .share - length (chainAt s l)) ≡ lacks es (s .chains) + (entryAt es l .share - length (Q .rest))
-            lacking =
-                omega (
-                  arith,
-                  lacks-told es′ es (t .chains) (t .chains) as-many (λ k h. (share-at k h, refl)),
-                  ap (λ (ds : List Entry). lacks ds (t .chains)) (set-getD es l zeroEntry),
-                  lacks-set es (s .chains) l (entryAt es l) (Q .rest) (S .pool .lists) (listed S l (Q .listed)) refl,
-                )
-              where
-                share-at : (k : ℕ) → k < length es′ → entryAt es′ k .share ≡ entryAt es k .share
-                share-at k h =
-                    let b : k < lifted .book .lists = omega (arith, length-take-le (lifted .book .lists) (lifted .book .entries) (Q .sound .rules .there)) in
-                    ap (λ (e : Entry). e .share) (entry-is (Q .sound) k b) ∙ shares k (ℕ-discrete k l) ∙ ap (λ (e : Entry). e .share) (sym (entry-is S k (omega (arith, Q .book .sameCount))))
-
-            room : Room es′ t l
-            room =
-                record {
-                  under = omega (arith, limit, ap length chain, one-longer, within S l (Q .listed));
-                  enough = either (decLt (length (chainAt t l)) (entryAt es′ l .share));
-                }
-              where
-                either : Dec (length (chainAt t l) < entryAt es′ l .share) → (length (chainAt t l) < entryAt es′ l .share) ⊎ (lacks es′ (t .chains) < length (t .idle))
-                either (yes h) = inl h
-                either (no h) = inr (omega (arith, lacking, share, S .pool .spare, ap length chain, one-longer))
-
-            done : pushAt E lifted end l taken .number ≡ 0
-            done = push-zero L (Q .sound) l below end taken .1 room
-
             P : Pushes E (lifted .links) (lifted .values) (lifted .book) end l taken t (pushAt E lifted end l taken)
-            P = push-of lifted l end (Q .sound) taken done
+            P = push-of L lifted l end (Q .sound) taken (pop-makes-room L st l end z taken)
 
             -- the slot that the push takes is the one that the pop released
             both : P .slot ∷ P .rest ≡ Q .slot ∷ s .idle
@@ -229,10 +152,7 @@ module _ {E : Engine} (L : Lawful E) where
             was : cell (st .values) (Q .slot) ≡ taken
             was = joined-one end _ taken _ _ (sym (contents-joined end (st .values) (Q .slot) (Q .rest)) ∙ ap (contents (st .values)) (sym (Q .last)) ∙ Q .holds) .0
 
-    -- ---- the weaker law of each: what the lists hold, and how many slots are free
-
-    pub push-held-again : (value : ℕ) → pushAt E st end l value .number ≡ 0 → HeldAgain E st value (popAt E (left (pushAt E st end l value)) end l)
-    push-held-again value z = let (s, S, P) = push-done L (st .links) (st .values) (st .book) l end value z in undone-held (push-undone value z) S
-
-    pub pop-held-again : popAt E st end l .number ≡ 0 → HeldAgain E st 0 (pushAt E lifted end l taken)
-    pop-held-again z = let (s, S, Q) = pop-done L (st .links) (st .values) (st .book) l end z in undone-held (pop-undone z) S
+    -- the same, told from soundness: a list of a sound pool that holds something
+    pub sound-pop-undone : {s : Shape} → SoundBook E (st .links) (st .values) (st .book) s → l < st .book .lists → 0 < length (chainAt s l)
+        → (popAt E st end l .number ≡ 0) × Undone E st 0 (pushAt E lifted end l taken)
+    sound-pop-undone S below some = let z = pop-zero L S l below end .1 some in (z, pop-undone z)

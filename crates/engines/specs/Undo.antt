@@ -42,9 +42,20 @@ module _ (E : Engine) where
     pub handed : r .value ≡ value
     pub holdings : SameHoldings before (left r)
 
-  -- in a trace, a call and the one that takes it back: both are done, the state is as it was, and the ledger notes one push and one pop more of list l while every list holds the same
-  pub record UndoneNext (st : State E) (ledger : Ledger) (l : ℕ) (call back : Move) : Type 0 where
-    pub done : numberOf E st call ≡ 0
-    pub doneToo : numberOf E (after E st call) back ≡ 0
-    pub sameState : after E (after E st call) back ≡ st
-    pub account : noted E (after E st call) back (noted E st call ledger) ≡ onePair l ledger
+  -- ---- in a trace, a call that is done and the one that takes it back
+
+  module _ (st : State E) (ledger : Ledger) (l : ℕ) (call back : Move) where
+    -- the second is done too, and the ledger notes one push and one pop more of list l while every list holds the same
+    pub record PairNoted : Type 0 where
+      pub doneToo : numberOf E (after E st call) back ≡ 0
+      pub account : noted E (after E st call) back (noted E st call ledger) ≡ onePair l ledger
+
+    -- and the state is as it was
+    pub record UndoneNext : Type 0 where
+      pub pair : PairNoted
+      pub sameState : after E (after E st call) back ≡ st
+
+    -- the weaker law: and what each list holds is as it was
+    pub record HeldNext : Type 0 where
+      pub pair : PairNoted
+      pub holdings : SameHoldings st (after E (after E st call) back)

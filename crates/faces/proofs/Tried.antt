@@ -23,7 +23,7 @@ use Rattle.xor.specs.Slot.{inPool}
 use Rattle.faces.specs.Words.{kept}
 use Rattle.faces.specs.Version.{faceVersion}
 use Rattle.faces.specs.Trace.{Memory, returned, FaceTrace, started, continued}
-use Rattle.faces.specs.Tried.{cP1, cP2, cSetups, cSetupsPass, cTurns, cDamaged, cRefused, cUndone, cFull, cAtLimit, cTurnsPass, notedFrom, notes, cAnswersPass}
+use Rattle.faces.specs.Tried.{cP1, cP2, cSetups, cSetupsPass, cTurns, cDamaged, cRefused, cUndone, cFull, cAtLimit, cUndoneHands, cTurnsPass, notedFrom, notes, cAnswersPass}
 
 pub c-setups-tried : cSetupsPass cSetups ≡ true
 unfolding tabulate isFair isZero gather allZero keepsRules sizesFit decided freshLink freshValue setupCall kept
@@ -37,9 +37,9 @@ pub c-refused-tried : cTurnsPass cDamaged cRefused ≡ true
 unfolding tabulate isFair isZero gather allZero keepsRules nothingMet gatherAll spareFault idleFault nullSlotZero poolFound checkFound sizesFit decided isMetOf markOf unmet walkOn walkable idlePath kept nearOf withNear isBeside pushEmptyOf pushBesideOf pushOf popOf takeOf releaseOf inPool checkCall lengthCall pushCall popCall clearCall clearOn readCall isSlot valuesAlong
 c-refused-tried = refl
 
-pub c-undone-tried : (cTurnsPass cP2 cUndone ≡ true) × (cTurnsPass cFull cAtLimit ≡ true)
+pub c-undone-tried : (cTurnsPass cP2 cUndone ≡ true) × (cTurnsPass cFull cAtLimit ≡ true) × (cUndoneHands ≡ true)
 unfolding tabulate isFair isZero gather allZero keepsRules nothingMet gatherAll spareFault idleFault nullSlotZero poolFound checkFound sizesFit decided isMetOf markOf unmet walkOn walkable idlePath kept nearOf withNear isBeside pushEmptyOf pushBesideOf pushOf popOf takeOf releaseOf inPool checkCall lengthCall pushCall popCall clearCall clearOn readCall isSlot valuesAlong
-c-undone-tried = (refl, refl)
+c-undone-tried = (refl, refl, refl)
 
 -- after P7: list 0 had four pushes and one pop, list 1 two pushes; the refused ones are not noted
 pub c-ledger-tried : (notes (notedFrom (take 10 cTurns)) 0 4 1 (20 ∷ 30 ∷ 40 ∷ []) ≡ true) × (notes (notedFrom (take 10 cTurns)) 1 2 0 (60 ∷ 61 ∷ []) ≡ true)

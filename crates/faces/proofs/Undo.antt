@@ -22,14 +22,14 @@ use Rattle.engines.proofs.SameHoldings.{same-numbers}
 use Rattle.xor.specs.Engine.{xor}
 use Rattle.xor.specs.Ten.{pushBackOf, pushFrontOf, popBackOf, popFrontOf}
 use Rattle.xor.specs.Moves.{Pool, stateOf, poolLeft, poolPopped, numberGiven, poolAfter, notedBy}
-use Rattle.xor.specs.Undo.{AsBefore, TakenBack, PutBack, TakenHeld, PutHeld, PoolUndone}
+use Rattle.xor.specs.Undo.{AsBefore, TakenBack, PutBack, TakenHeld, PutHeld, PoolNoted, PoolUndone, PoolHeld}
 use Rattle.xor.proofs.Plain.{number-told}
 use Rattle.xor.proofs.Lawful.{xor-lawful}
-use Rattle.xor.proofs.Undo.{push-back-undone, push-front-undone, pop-back-undone, pop-front-undone, push-back-held, push-front-held, pop-back-held, pop-front-held, named-press-undone, named-lift-undone}
+use Rattle.xor.proofs.Undo.{push-back-undone, push-front-undone, pop-back-undone, pop-front-undone, push-back-held, push-front-held, pop-back-held, pop-front-held, named-press-undone, named-press-held, named-lift-undone, named-lift-held}
 use Rattle.faces.specs.Words.{kept}
 use Rattle.faces.specs.Face.{Changed, changed, Handed, handed, asChanged, asHanded, pushBackFace, pushFrontFace, popBackFace, popFrontFace}
 use Rattle.faces.specs.Trace.{Memory, memoryChanged, memoryHanded, returned, memoryAfter, notedFor, FaceTrace, continued}
-use Rattle.faces.specs.Undo.{MemoryBefore, FaceTakenBack, FacePutBack, stateIn, HoldingsBefore, FaceTakenHeld, FacePutHeld, handedTo, MemoryUndone}
+use Rattle.faces.specs.Undo.{PushesUndone, PopsUndone, MemoryBefore, FaceTakenBack, FacePutBack, stateIn, HoldingsBefore, FaceTakenHeld, FacePutHeld, handedTo, MemoryNoted, MemoryUndone, MemoryHeld}
 use Rattle.faces.proofs.Kept.{kept-done}
 use Rattle.faces.proofs.Traces.{poolOf, AfterCall, memory-told, returned-told, face-trace}
 
@@ -116,6 +116,13 @@ module _ (links values words : List ℕ) (h : length words ≡ 34) (l : ℕ) whe
       (subst (λ (p : Pool). PutHeld links values (bookFrom words) (pushFrontOf (p .links) (p .values) (p .book) l v)) (sym (memory-told m h (popFront l) .pool))
       (pop-front-held links values (bookFrom words) l z))
 
+-- the four together: 02 a) of the C functions, as crates/faces/specs/Undo.antt says it
+pub bounced-key : PushesUndone × PopsUndone
+bounced-key = (
+  λ links values words h l value. (face-push-back-undone links values words h l value, face-push-front-undone links values words h l value),
+  λ links values words h l. (face-pop-back-undone links values words h l, face-pop-front-undone links values words h l),
+)
+
 -- the laws leave no choice: two results that both meet one are the same
 module _ {links values words : List ℕ} where
   pub memory-before-one : {m n : Memory} → MemoryBefore links values words m → MemoryBefore links values words n → m ≡ n
@@ -158,40 +165,59 @@ memoryFrom p = record { links = p .links; values = p .values; words = wordsOf (p
 told-back : (m : Memory) → length (m .words) ≡ 34 → memoryFrom (poolOf m) ≡ m
 told-back m h = λ i. record { links = m .links; values = m .values; words = words-kept (m .words) h i }
 
-module _ {m : Memory} (h : length (m .words) ≡ 34) {ledger : Ledger} {l : ℕ} where
-  of-pool : {call back : Move} → PoolUndone (poolOf m) ledger l call back → MemoryUndone m ledger l call back
-  of-pool {call} {back} U =
-      record {
-        done = returned-told m call ∙ U .done;
-        doneToo = second ∙ U .doneToo;
-        sameMemory = sym (told-back _ (there .words)) ∙ ap memoryFrom (there .pool ∙ ap (λ (p : Pool). poolAfter p back) (first .pool) ∙ U .samePool) ∙ told-back m h;
-        account = (λ i. cond (eqb (second i) 0) (notedDone back (once i)) (once i)) ∙ U .account;
-      }
+module _ (m : Memory) (h : length (m .words) ≡ 34) (call back : Move) where
+  first : AfterCall m call
+  first = memory-told m h call
+
+  there : AfterCall (memoryAfter m call) back
+  there = memory-told (memoryAfter m call) (first .words) back
+
+  then : poolOf (memoryAfter (memoryAfter m call) back) ≡ poolAfter (poolAfter (poolOf m) call) back
+  then = there .pool ∙ ap (λ (p : Pool). poolAfter p back) (first .pool)
+
+module _ {m : Memory} (h : length (m .words) ≡ 34) {ledger : Ledger} {l : ℕ} {call back : Move} where
+  pair-in-words : PoolNoted (poolOf m) ledger l call back → MemoryNoted m ledger l call back
+  pair-in-words U = record { doneToo = second ∙ U .doneToo; account = (λ i. cond (eqb (second i) 0) (notedDone back (once i)) (once i)) ∙ U .account }
     where
-      first : AfterCall m call
-      first = memory-told m h call
-
-      there : AfterCall (memoryAfter m call) back
-      there = memory-told (memoryAfter m call) (first .words) back
-
       second : returned (memoryAfter m call) back ≡ numberGiven (poolAfter (poolOf m) call) back
-      second = returned-told (memoryAfter m call) back ∙ ap (λ (p : Pool). numberGiven p back) (first .pool)
+      second = returned-told (memoryAfter m call) back ∙ ap (λ (p : Pool). numberGiven p back) (first m h call back .pool)
 
       once : notedFor m call ledger ≡ notedBy (poolOf m) call ledger
       once = ap (λ (n : ℕ). cond (eqb n 0) (notedDone call ledger) ledger) (returned-told m call)
 
+  of-pool : PoolUndone (poolOf m) ledger l call back → MemoryUndone m ledger l call back
+  of-pool U = record { pair = pair-in-words (U .pair); sameMemory = sym (told-back _ (there m h call back .words)) ∙ ap memoryFrom (then m h call back ∙ U .samePool) ∙ told-back m h }
+
+  of-pool-held : PoolHeld (poolOf m) ledger l call back → MemoryHeld m ledger l call back
+  of-pool-held H = record { pair = pair-in-words (H .pair); holdings = subst (λ (st : State xor). SameHoldings xor (stateIn m) st) (sym (ap stateOf (then m h call back))) (H .holdings) }
+
 module _ {lists : ℕ} {shares limits : List ℕ} {m : Memory} {ledger : Ledger} (t : FaceTrace lists shares limits m ledger) (l : ℕ) where
   -- a press taken straight back
-  pub face-press-undone : (end : End) (value : ℕ) → returned m (pushMove end l value) ≡ 0 → MemoryUndone m ledger l (pushMove end l value) (popMove end l)
-  face-press-undone end value z = of-pool (face-trace t .0) (named-press-undone end value (sym (returned-told m (pushMove end l value)) ∙ z))
+  module _ (end : End) (value : ℕ) (z : returned m (pushMove end l value) ≡ 0) where
+    pub face-press-undone : MemoryUndone m ledger l (pushMove end l value) (popMove end l)
+    face-press-undone = of-pool (face-trace t .0) (named-press-undone end value (sym (returned-told m (pushMove end l value)) ∙ z))
+
+    pub face-press-held : MemoryHeld m ledger l (pushMove end l value) (popMove end l)
+    face-press-held = of-pool-held (face-trace t .0) (named-press-held end value (sym (returned-told m (pushMove end l value)) ∙ z))
 
   -- a pop pushed back
   pub face-lift-undone : (end : End) → returned m (popMove end l) ≡ 0 → MemoryUndone m ledger l (popMove end l) (pushMove end l (handedTo m end l))
   face-lift-undone Front z = of-pool (face-trace t .0) (named-lift-undone (face-trace t .1) Front z)
   face-lift-undone Back z = of-pool (face-trace t .0) (named-lift-undone (face-trace t .1) Back z)
 
-  -- the trace goes on from the memory that it had
-  pub face-undone-trace : {call back : Move} → MemoryUndone m ledger l call back → FaceTrace lists shares limits m (onePair l ledger)
-  face-undone-trace {call} {back} U =
-      subst (λ (x : Memory). FaceTrace lists shares limits x (onePair l ledger)) (U .sameMemory)
-      (subst (λ (y : Ledger). FaceTrace lists shares limits (memoryAfter (memoryAfter m call) back) y) (U .account) (continued (continued t call) back))
+  pub face-lift-held : (end : End) → returned m (popMove end l) ≡ 0 → MemoryHeld m ledger l (popMove end l) (pushMove end l (handedTo m end l))
+  face-lift-held Front z = of-pool-held (face-trace t .0) (named-lift-held (face-trace t .1) Front z)
+  face-lift-held Back z = of-pool-held (face-trace t .0) (named-lift-held (face-trace t .1) Back z)
+
+  -- the second call is done, and the trace goes on from the memory that it had
+  pub face-undone-trace : {call back : Move} → MemoryUndone m ledger l call back → (returned (memoryAfter m call) back ≡ 0) × FaceTrace lists shares limits m (onePair l ledger)
+  face-undone-trace {call} {back} U = (
+    U .pair .doneToo,
+    subst (λ (x : Memory). FaceTrace lists shares limits x (onePair l ledger)) (U .sameMemory)
+        (subst (λ (y : Ledger). FaceTrace lists shares limits (memoryAfter (memoryAfter m call) back) y) (U .pair .account) (continued (continued t call) back)),
+  )
+
+  -- by the weaker law the second call is done too, and every C function then returns what it would have returned before the first
+  pub held-next-returns : {call back : Move} → MemoryHeld m ledger l call back
+      → (returned (memoryAfter m call) back ≡ 0) × ((move : Move) → returned (memoryAfter (memoryAfter m call) back) move ≡ returned m move)
+  held-next-returns H = (H .pair .doneToo, held-returns (m .links) (m .values) (m .words) _ (H .holdings))

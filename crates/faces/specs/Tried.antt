@@ -177,6 +177,15 @@ cAtLimit =
     ∷ cTurn (pushFront 1 11) 0 cFull
     ∷ []
 
+-- and what these pops hand out
+abbrev pub cUndoneHands : Bool
+cUndoneHands =
+    eqb (popBackFace (cP3 .links) (cP3 .values) (cP3 .words) 0 .answer .value) 40
+    && (eqb (popFrontFace (cP3 .links) (cP3 .values) (cP3 .words) 0 .answer .value) 10
+    && (eqb (popFrontFace (cP5 .links) (cP5 .values) (cP5 .words) 1 .answer .value) 60
+    && (eqb (popBackFace (cFull .links) (cFull .values) (cFull .words) 1 .answer .value) 13
+    && eqb (popFrontFace (cFull .links) (cFull .values) (cFull .words) 1 .answer .value) 11)))
+
 -- does each return its number and leave its memory?
 abbrev pub cTurnsPass : Memory → List CTurn → Bool
 cTurnsPass m [] = true

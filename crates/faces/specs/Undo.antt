@@ -2,6 +2,7 @@
 use mathlib.Core.Path.{_≡_}
 use mathlib.Core.List.{List}
 use Prim.Native.Nat.{ℕ}
+use lib.ListN.{length}
 use Rattle.books.specs.Book.{eight}
 use Rattle.books.specs.Outcome.{Outcome}
 use Rattle.books.specs.Words.{bookFrom}
@@ -12,7 +13,7 @@ use Rattle.shapes.specs.Ledger.{Ledger, onePair}
 use Rattle.engines.specs.Moves.{State}
 use Rattle.engines.specs.Undo.{SameHoldings}
 use Rattle.xor.specs.Engine.{xor}
-use Rattle.faces.specs.Face.{Changed, Handed, popBackFace, popFrontFace}
+use Rattle.faces.specs.Face.{Changed, Handed, pushBackFace, pushFrontFace, popBackFace, popFrontFace}
 use Rattle.faces.specs.Trace.{Memory, memoryChanged, memoryHanded, returned, memoryAfter, notedFor}
 
 -- the pool that the memory holds, as the laws over any engine have it
@@ -50,14 +51,37 @@ module _ (links values words : List ℕ) where
     pub number : r .answer .number ≡ 0
     pub holdings : HoldingsBefore (memoryChanged r)
 
+-- 02 a), its first half: after a push that returned 0, the pop at the same end of that list, on the memory that the push left. The book has 34 words, as in C
+abbrev pub PushesUndone : Type 0
+PushesUndone = (links values words : List ℕ) → length words ≡ 34 → (l value : ℕ)
+    → (let r = pushBackFace links values words l value in r .answer .number ≡ 0 → FaceTakenBack links values words value (popBackFace (r .links) (r .values) (r .answer .book) l))
+    × (let r = pushFrontFace links values words l value in r .answer .number ≡ 0 → FaceTakenBack links values words value (popFrontFace (r .links) (r .values) (r .answer .book) l))
+
+-- its second half: after a pop that returned 0, and so in a sound pool, the push of its value at the same end of that list
+abbrev pub PopsUndone : Type 0
+PopsUndone = (links values words : List ℕ) → length words ≡ 34 → (l : ℕ)
+    → (let r = popBackFace links values words l in r .answer .number ≡ 0 → FacePutBack links values words (pushBackFace (r .links) (r .values) (r .answer .book) l (r .answer .value)))
+    × (let r = popFrontFace links values words l in r .answer .number ≡ 0 → FacePutBack links values words (pushFrontFace (r .links) (r .values) (r .answer .book) l (r .answer .value)))
+
 -- what a pop at either end writes to `value`
 abbrev pub handedTo : Memory → End → ℕ → ℕ
 handedTo m Front l = popFrontFace (m .links) (m .values) (m .words) l .answer .value
 handedTo m Back l = popBackFace (m .links) (m .values) (m .words) l .answer .value
 
--- in a trace of the C functions, a call and the one that takes it back: both return 0, the memory is as it was, and the ledger notes one push and one pop more of list l while every list holds the same
-pub record MemoryUndone (m : Memory) (ledger : Ledger) (l : ℕ) (call back : Move) : Type 0 where
-  pub done : returned m call ≡ 0
-  pub doneToo : returned (memoryAfter m call) back ≡ 0
-  pub sameMemory : memoryAfter (memoryAfter m call) back ≡ m
-  pub account : notedFor (memoryAfter m call) back (notedFor m call ledger) ≡ onePair l ledger
+-- ---- in a trace of the C functions, a call that returned 0 and the one that takes it back
+
+module _ (m : Memory) (ledger : Ledger) (l : ℕ) (call back : Move) where
+  -- the second returns 0 too, and the ledger notes one push and one pop more of list l while every list holds the same
+  pub record MemoryNoted : Type 0 where
+    pub doneToo : returned (memoryAfter m call) back ≡ 0
+    pub account : notedFor (memoryAfter m call) back (notedFor m call ledger) ≡ onePair l ledger
+
+  -- and the memory is as it was
+  pub record MemoryUndone : Type 0 where
+    pub pair : MemoryNoted
+    pub sameMemory : memoryAfter (memoryAfter m call) back ≡ m
+
+  -- the weaker law: and what each list holds is as it was
+  pub record MemoryHeld : Type 0 where
+    pub pair : MemoryNoted
+    pub holdings : HoldingsBefore (m .links) (m .values) (m .words) (memoryAfter (memoryAfter m call) back)

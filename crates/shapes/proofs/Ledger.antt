@@ -13,7 +13,7 @@ use borrow.Author.Tests.{eq-eqb, ne-eqb}
 use Rattle.shapes.specs.declared.End.{End}
 use Rattle.shapes.specs.declared.End.the-variants.{Front, Back}
 use Rattle.shapes.specs.Ends.{joined}
-use Rattle.shapes.specs.Moves.{Move, pushMove, popMove}
+use Rattle.shapes.specs.Moves.{Move, pushBack, pushFront, popBack, popFront, pushMove, popMove}
 use Rattle.shapes.specs.Ledger.{Ledger, oneMore, noneAt, heldAt, butLast, butFirst, notedDone, onePair}
 
 pub more-here : (l : ℕ) (f : ℕ → ℕ) → oneMore l f l ≡ suc (f l)
@@ -47,6 +47,10 @@ without-joined Back v vs = ap (λ n. take n (vs ++ v ∷ [])) one-less ∙ take-
     one-less = omega (arith, length-append vs (v ∷ []))
 
 -- ---- 02 a): a push and its pop
+
+-- which move a push and a pop at an end are
+pub moves-told : (l value : ℕ) → (pushMove Front l value ≡ pushFront l value) × (pushMove Back l value ≡ pushBack l value) × (popMove Front l ≡ popFront l) × (popMove Back l ≡ popBack l)
+moves-told l value = (refl, refl, refl, refl)
 
 -- list l is given another sequence, and then the one that it had
 held-back : (l : ℕ) (vs ws : List ℕ) (f : ℕ → List ℕ) → ws ≡ f l → heldAt l ws (heldAt l vs f) ≡ f

@@ -2,8 +2,9 @@
 use mathlib.Core.Path.{_≡_, sym, ap, subst, _∙_}
 use mathlib.Core.Bool.{cond}
 use mathlib.Core.List.{List}
-use Prim.Native.Nat.{ℕ}
+use Prim.Native.Nat.{ℕ, _<_}
 use lib.Dec.{eqb}
+use lib.ListN.{length}
 use Rattle.books.specs.declared.Book.{Book}
 use Rattle.books.specs.declared.Answer.{Answer}
 use Rattle.books.specs.declared.Popped.{Popped}
@@ -11,19 +12,24 @@ use Rattle.books.specs.Book.{AnyBook, bookOf}
 use Rattle.books.specs.Outcome.{Outcome, outcome}
 use Rattle.shapes.specs.declared.End.{End}
 use Rattle.shapes.specs.declared.End.the-variants.{Front, Back}
+use Rattle.shapes.specs.Shape.{Shape, chainAt}
 use Rattle.shapes.specs.Moves.{Move, pushBack, pushFront, popBack, popFront, pushMove, popMove}
 use Rattle.shapes.specs.Ledger.{Ledger, notedDone, onePair}
 use Rattle.engines.specs.Calls.{Called}
 use Rattle.engines.specs.Moves.{State, left, numberOf, after}
 use Rattle.engines.specs.Trace.{noted}
-use Rattle.engines.specs.Undo.{Undone, SameHoldings, HeldAgain, UndoneNext}
+use Rattle.engines.specs.Undo.{Undone, SameHoldings, HeldAgain, PairNoted, UndoneNext, HeldNext}
+use Rattle.engines.proofs.Exactly.{pop-zero}
 use Rattle.engines.proofs.After.{pushAt, popAt}
-use Rattle.engines.proofs.Undo.{push-undone, pop-undone, push-held-again, pop-held-again}
-use Rattle.engines.proofs.UndoTraces.{press-undone, lift-undone}
+use Rattle.engines.proofs.Undo.{push-undone, pop-undone}
+use Rattle.engines.proofs.Again.{push-held-again, pop-held-again}
+use Rattle.engines.proofs.UndoTraces.{press-undone, press-held, lift-undone, lift-held}
 use Rattle.xor.specs.Engine.{xor}
+use Rattle.xor.specs.Sound.{XorBook}
 use Rattle.xor.specs.Ten.{asAnswer, asPopped, pushBackOf, pushFrontOf, popBackOf, popFrontOf}
 use Rattle.xor.specs.Moves.{Pool, stateOf, poolLeft, poolPopped, numberGiven, poolAfter, notedBy, PoolTrace, called}
-use Rattle.xor.specs.Undo.{AsBefore, TakenBack, PutBack, TakenHeld, PutHeld, handedAt, PoolUndone}
+use Rattle.xor.specs.Undo.{AsBefore, TakenBack, PutBack, TakenHeld, PutHeld, handedAt, PoolNoted, PoolUndone, PoolHeld}
+use Rattle.xor.proofs.Page.{page-told}
 use Rattle.xor.proofs.Plain.{number-told, after-told}
 use Rattle.xor.proofs.Traces.{pool-trace}
 use Rattle.xor.proofs.Lawful.{xor-lawful}
@@ -61,6 +67,16 @@ module _ (links values : List ℕ) (b : Book) (l : ℕ) where
   pub pop-front-undone : let r = popFrontOf links values b l in
       r .answer .given .refusal .number ≡ 0 → PutBack links values b (pushFrontOf (r .links) (r .values) (r .answer .book) l (r .answer .given .value))
   pop-front-undone z = put _ Front (popFront l) (pop-undone xor-lawful (stateOf p) l Front z)
+
+-- the second half told from soundness, as the reader's page has it: a list of a sound pool that holds something
+module _ {links values : List ℕ} {b : Book} {s : Shape} (X : XorBook links values b s) (l : ℕ) (below : l < b .lists) (some : 0 < length (chainAt s l)) where
+  pub sound-pop-back-undone : let r = popBackOf links values b l in
+      (r .answer .given .refusal .number ≡ 0) × PutBack links values b (pushBackOf (r .links) (r .values) (r .answer .book) l (r .answer .given .value))
+  sound-pop-back-undone = let z = pop-zero xor-lawful (page-told links values b s .1 X) l below Back .1 some in (z, pop-back-undone links values b l z)
+
+  pub sound-pop-front-undone : let r = popFrontOf links values b l in
+      (r .answer .given .refusal .number ≡ 0) × PutBack links values b (pushFrontOf (r .links) (r .values) (r .answer .book) l (r .answer .given .value))
+  sound-pop-front-undone = let z = pop-zero xor-lawful (page-told links values b s .1 X) l below Front .1 some in (z, pop-front-undone links values b l z)
 
 -- the laws leave no choice: two results that both meet one are the same
 module _ {links values : List ℕ} {b : Book} where
@@ -130,37 +146,47 @@ module _ (links values : List ℕ) (b : Book) (l : ℕ) where
 abbrev poolFrom : State xor → Pool
 poolFrom st = record { links = st .links; values = st .values; book = bookOf (st .book) }
 
+-- two calls by name leave what the two calls over the engine leave
+then : (p : Pool) (call back : Move) → stateOf (poolAfter (poolAfter p call) back) ≡ after xor (after xor (stateOf p) call) back
+then p call back = after-told (poolAfter p call) back ∙ ap (λ (st : State xor). after xor st back) (after-told p call)
+
 module _ {p : Pool} {ledger : Ledger} {l : ℕ} where
-  named : {call back : Move} → UndoneNext xor (stateOf p) ledger l call back → PoolUndone p ledger l call back
-  named {call} {back} U =
-      record {
-        done = number-told p call ∙ U .done;
-        doneToo = second ∙ U .doneToo;
-        samePool = ap poolFrom (then ∙ U .sameState);
-        account = (λ i. cond (eqb (second i) 0) (notedDone back (first i)) (first i)) ∙ U .account;
-      }
-    where
-      second : numberGiven (poolAfter p call) back ≡ numberOf xor (after xor (stateOf p) call) back
-      second = number-told (poolAfter p call) back ∙ ap (λ (st : State xor). numberOf xor st back) (after-told p call)
+  module _ {call back : Move} where
+    pair-named : PairNoted xor (stateOf p) ledger l call back → PoolNoted p ledger l call back
+    pair-named U = record { doneToo = second ∙ U .doneToo; account = (λ i. cond (eqb (second i) 0) (notedDone back (first i)) (first i)) ∙ U .account }
+      where
+        second : numberGiven (poolAfter p call) back ≡ numberOf xor (after xor (stateOf p) call) back
+        second = number-told (poolAfter p call) back ∙ ap (λ (st : State xor). numberOf xor st back) (after-told p call)
 
-      then : stateOf (poolAfter (poolAfter p call) back) ≡ after xor (after xor (stateOf p) call) back
-      then = after-told (poolAfter p call) back ∙ ap (λ (st : State xor). after xor st back) (after-told p call)
+        first : notedBy p call ledger ≡ noted xor (stateOf p) call ledger
+        first = ap (λ (n : ℕ). cond (eqb n 0) (notedDone call ledger) ledger) (number-told p call)
 
-      first : notedBy p call ledger ≡ noted xor (stateOf p) call ledger
-      first = ap (λ (n : ℕ). cond (eqb n 0) (notedDone call ledger) ledger) (number-told p call)
+    named : UndoneNext xor (stateOf p) ledger l call back → PoolUndone p ledger l call back
+    named U = record { pair = pair-named (U .pair); samePool = ap poolFrom (then p call back ∙ U .sameState) }
+
+    named-held : HeldNext xor (stateOf p) ledger l call back → PoolHeld p ledger l call back
+    named-held H = record { pair = pair-named (H .pair); holdings = subst (λ (st : State xor). SameHoldings xor (stateOf p) st) (sym (then p call back)) (H .holdings) }
+
+    -- the trace goes on from the pool that it had
+    pub named-undone-trace : {lists : ℕ} {shares limits : List ℕ} → PoolTrace lists shares limits p ledger → PoolUndone p ledger l call back → PoolTrace lists shares limits p (onePair l ledger)
+    named-undone-trace {lists} {shares} {limits} t U =
+        subst (λ (x : Pool). PoolTrace lists shares limits x (onePair l ledger)) (U .samePool)
+        (subst (λ (y : Ledger). PoolTrace lists shares limits (poolAfter (poolAfter p call) back) y) (U .pair .account) (called (called t call) back))
 
   -- a press taken straight back
-  pub named-press-undone : (end : End) (value : ℕ) → numberGiven p (pushMove end l value) ≡ 0 → PoolUndone p ledger l (pushMove end l value) (popMove end l)
-  named-press-undone end value z = named (press-undone xor-lawful l end value (sym (number-told p (pushMove end l value)) ∙ z))
+  module _ (end : End) (value : ℕ) (z : numberGiven p (pushMove end l value) ≡ 0) where
+    pub named-press-undone : PoolUndone p ledger l (pushMove end l value) (popMove end l)
+    named-press-undone = named (press-undone xor-lawful l end value (sym (number-told p (pushMove end l value)) ∙ z))
+
+    pub named-press-held : PoolHeld p ledger l (pushMove end l value) (popMove end l)
+    named-press-held = named-held (press-held xor-lawful l end value (sym (number-told p (pushMove end l value)) ∙ z))
 
   -- a pop pushed back
-  pub named-lift-undone : {lists : ℕ} {shares limits : List ℕ} → PoolTrace lists shares limits p ledger → (end : End) → numberGiven p (popMove end l) ≡ 0
-      → PoolUndone p ledger l (popMove end l) (pushMove end l (handedAt p end l))
-  named-lift-undone t Front z = named (lift-undone xor-lawful l (pool-trace t) Front z)
-  named-lift-undone t Back z = named (lift-undone xor-lawful l (pool-trace t) Back z)
+  module _ {lists : ℕ} {shares limits : List ℕ} (t : PoolTrace lists shares limits p ledger) where
+    pub named-lift-undone : (end : End) → numberGiven p (popMove end l) ≡ 0 → PoolUndone p ledger l (popMove end l) (pushMove end l (handedAt p end l))
+    named-lift-undone Front z = named (lift-undone xor-lawful l (pool-trace t) Front z)
+    named-lift-undone Back z = named (lift-undone xor-lawful l (pool-trace t) Back z)
 
-  -- the trace goes on from the pool that it had
-  pub named-undone-trace : {lists : ℕ} {shares limits : List ℕ} {call back : Move} → PoolTrace lists shares limits p ledger → PoolUndone p ledger l call back → PoolTrace lists shares limits p (onePair l ledger)
-  named-undone-trace {lists} {shares} {limits} {call} {back} t U =
-      subst (λ (x : Pool). PoolTrace lists shares limits x (onePair l ledger)) (U .samePool)
-      (subst (λ (y : Ledger). PoolTrace lists shares limits (poolAfter (poolAfter p call) back) y) (U .account) (called (called t call) back))
+    pub named-lift-held : (end : End) → numberGiven p (popMove end l) ≡ 0 → PoolHeld p ledger l (popMove end l) (pushMove end l (handedAt p end l))
+    named-lift-held Front z = named-held (lift-held xor-lawful l (pool-trace t) Front z)
+    named-lift-held Back z = named-held (lift-held xor-lawful l (pool-trace t) Back z)

@@ -51,9 +51,20 @@ abbrev pub handedAt : Pool → End → ℕ → ℕ
 handedAt p Front l = popFrontOf (p .links) (p .values) (p .book) l .answer .given .value
 handedAt p Back l = popBackOf (p .links) (p .values) (p .book) l .answer .given .value
 
--- in a trace of the calls by name, a call and the one that takes it back: both are done, the pool with its book is as it was, and the ledger notes one push and one pop more of list l while every list holds the same
-pub record PoolUndone (p : Pool) (ledger : Ledger) (l : ℕ) (call back : Move) : Type 0 where
-  pub done : numberGiven p call ≡ 0
-  pub doneToo : numberGiven (poolAfter p call) back ≡ 0
-  pub samePool : poolAfter (poolAfter p call) back ≡ p
-  pub account : notedBy (poolAfter p call) back (notedBy p call ledger) ≡ onePair l ledger
+-- ---- in a trace of the calls by name, a call that is done and the one that takes it back
+
+module _ (p : Pool) (ledger : Ledger) (l : ℕ) (call back : Move) where
+  -- the second is done too, and the ledger notes one push and one pop more of list l while every list holds the same
+  pub record PoolNoted : Type 0 where
+    pub doneToo : numberGiven (poolAfter p call) back ≡ 0
+    pub account : notedBy (poolAfter p call) back (notedBy p call ledger) ≡ onePair l ledger
+
+  -- and the pool with its book is as it was
+  pub record PoolUndone : Type 0 where
+    pub pair : PoolNoted
+    pub samePool : poolAfter (poolAfter p call) back ≡ p
+
+  -- the weaker law: and what each list holds is as it was
+  pub record PoolHeld : Type 0 where
+    pub pair : PoolNoted
+    pub holdings : SameHoldings xor (stateOf p) (stateOf (poolAfter (poolAfter p call) back))
