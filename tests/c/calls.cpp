@@ -1,11 +1,12 @@
-// The ten calls of a library, by way of include/flailreeve.h, against the model: 01's pools, every tiny pool, random
-// sequences, random sound pools, damaged ones, wrong sizes and wrong setups. Fixed seeds; it ends with the table of numbers.
+// The ten calls of a library, by way of include/flailreeve.h, against the model: 01's pools, every tiny pool, random sequences, random
+// sound pools, damaged ones, wrong sizes and wrong setups, presses undone. Fixed seeds; it ends with the table of numbers.
 #include <cstdlib>
 #include <ctime>
 
 #include "dice.hpp"
 #include "pools.hpp"
 #include "tiny.hpp"
+#include "undo.hpp"
 
 static Ground ground;
 
@@ -331,6 +332,14 @@ static void pools()
     std::printf("  P1 to P10 and the others that document 01 lists\n");
 }
 
+static void undo()
+{
+    Undo undo(6);
+    undo.on_shapes(4000);
+    undo.from_setups(200);
+    undo.say();
+}
+
 // Every number that 01's table allows was given, and no other.
 static void table()
 {
@@ -363,7 +372,7 @@ int main(int argc, char **argv)
         const char *name;
         void (*run)();
     } stages[] = {{"pools", pools},     {"setups", setups}, {"lengths", lengths}, {"damage", damage},
-                  {"shapes", shapes}, {"sequences", sequences}, {"tiny", tiny}};
+                  {"shapes", shapes}, {"sequences", sequences}, {"tiny", tiny}, {"undo", undo}};
     bool only = argc > 1;
     catch_faults();
     for (const auto &stage : stages) {

@@ -10,7 +10,7 @@
 // How often each call gave each number, in one run of the tests.
 inline unsigned long reached[model::calls][model::numbers];
 inline unsigned long made;            // calls made
-inline unsigned long cells_compared;  // cells, words and places compared with the model's
+inline unsigned long cells_compared;  // cells, words and places compared with the model's, or with those of before
 inline unsigned long never_written;   // calls made on memory that cannot be written
 
 // A call that touches memory it was not lent, or writes to what it may only read, ends here.
@@ -61,6 +61,15 @@ public:
             fail("%s gave %u, the model says %u", model::names[ask.call], got, number);
         reached[ask.call][got < model::numbers ? got : 0]++;
         compare(ask, want);
+    }
+
+    // What the last call left: links, values, the book and the value handed out.
+    void left(model::Memory &m)
+    {
+        m.links.assign(links.data(), links.data() + links.size());
+        m.values.assign(values.data(), values.data() + values.size());
+        m.book = *book.data();
+        m.word = *value.data();
     }
 
     Place place = Place::between;

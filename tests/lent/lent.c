@@ -1,4 +1,5 @@
-// Runs the four lent calls from C on document 01's pools P1 to P7 and P10, and on calls that are refused, and compares every cell and every word of the book.
+// Runs the four lent calls from C on document 01's pools P1 to P7 and P10, on calls that are refused, and on random calls that are undone, and compares every cell and
+// every word of the book.
 #include <stddef.h>
 #include <stdint.h>
 #include <stdio.h>
@@ -21,17 +22,18 @@ struct refusal flailreeve_lent_push_front(uint16_t *links, size_t links_len, uin
 struct value flailreeve_lent_pop_back(uint16_t *links, size_t links_len, uint64_t *values, size_t values_len, struct book *book, uint16_t list);
 struct value flailreeve_lent_pop_front(uint16_t *links, size_t links_len, uint64_t *values, size_t values_len, struct book *book, uint16_t list);
 
-enum { N = 6 };
+enum { N = 6, ROOM = 64 }; // the slots of document 01's pools, and of the largest pool here
 enum call { PUSH_BACK, PUSH_FRONT, POP_BACK, POP_FRONT };
 static const char *const names[] = { "push back", "push front", "pop back", "pop front" };
 
-// The pool stands between words that no call may touch.
+// The pool stands between words that no call may touch, and neither may it touch the cells past the slots.
 struct memory {
+    size_t slots;
     uint16_t before;
-    uint16_t links[N];
+    uint16_t links[ROOM];
     uint16_t between;
     uint64_t first;
-    uint64_t values[N];
+    uint64_t values[ROOM];
     uint64_t last;
     struct book book;
     uint16_t after;
@@ -67,18 +69,26 @@ static const struct step course[] = {
 
 static int calls;
 
-static struct memory p1(void)
+// All slots are free, and there is no list yet.
+static struct memory fresh(size_t slots)
 {
     struct memory m;
     memset(&m, 0, sizeof m);
+    m.slots = slots;
     m.before = m.between = m.after = 0xa5a5;
     m.first = m.last = 0xa5a5a5a5a5a5a5a5u;
-    for (uint16_t slot = 1; slot + 1 < N; slot++)
+    for (uint16_t slot = 1; slot + 1u < slots; slot++)
         m.links[slot] = (uint16_t)(slot + 1);
+    m.book.free_head = 1;
+    return m;
+}
+
+static struct memory p1(void)
+{
+    struct memory m = fresh(N);
     m.book.lists = 2;
     m.book.list[0] = (struct list){ 0, 0, 2, 5 };
     m.book.list[1] = (struct list){ 0, 0, 1, 3 };
-    m.book.free_head = 1;
     return m;
 }
 
@@ -88,16 +98,16 @@ static struct value run(struct memory *m, size_t values_len, enum call call, uin
     calls++;
     switch (call) {
     case PUSH_BACK:
-        out.refusal = flailreeve_lent_push_back(m->links, N, m->values, values_len, &m->book, list, value);
+        out.refusal = flailreeve_lent_push_back(m->links, m->slots, m->values, values_len, &m->book, list, value);
         break;
     case PUSH_FRONT:
-        out.refusal = flailreeve_lent_push_front(m->links, N, m->values, values_len, &m->book, list, value);
+        out.refusal = flailreeve_lent_push_front(m->links, m->slots, m->values, values_len, &m->book, list, value);
         break;
     case POP_BACK:
-        out = flailreeve_lent_pop_back(m->links, N, m->values, values_len, &m->book, list);
+        out = flailreeve_lent_pop_back(m->links, m->slots, m->values, values_len, &m->book, list);
         break;
     case POP_FRONT:
-        out = flailreeve_lent_pop_front(m->links, N, m->values, values_len, &m->book, list);
+        out = flailreeve_lent_pop_front(m->links, m->slots, m->values, values_len, &m->book, list);
         break;
     }
     return out;
@@ -120,7 +130,7 @@ static int compare(const char *pool, enum call call, const struct memory *is, co
     memcpy(right, &expected->book, sizeof right);
     for (size_t k = 0; k < 34; k++)
         bad += differs(pool, call, "word of the book", k, words[k], right[k]);
-    for (size_t k = 0; k < N; k++) {
+    for (size_t k = 0; k < ROOM; k++) {
         bad += differs(pool, call, "link", k, is->links[k], expected->links[k]);
         bad += differs(pool, call, "value", k, is->values[k], expected->values[k]);
     }
@@ -145,24 +155,30 @@ static int refused(const char *pool, struct memory m, size_t values_len, enum ca
     return answers(pool, call, out, number, 0) + compare(pool, call, &m, &was);
 }
 
-int main(void)
+// Document 01's pools, one after the other. Answers how many words differ, and leaves the memory after the last.
+static int in_course(struct memory *m)
 {
     int bad = 0;
-    struct memory m = p1();
+    *m = p1();
     for (size_t k = 0; k < sizeof course / sizeof course[0]; k++) {
         const struct step *s = &course[k];
         struct memory right = p1();
-        memcpy(right.links, s->links, sizeof right.links);
-        memcpy(right.values, s->values, sizeof right.values);
+        memcpy(right.links, s->links, sizeof s->links);
+        memcpy(right.values, s->values, sizeof s->values);
         right.book.list[0].head = s->ends[0];
         right.book.list[0].tail = s->ends[1];
         right.book.list[1].head = s->ends[2];
         right.book.list[1].tail = s->ends[3];
         right.book.free_head = s->free_head;
-        bad += answers(s->pool, s->call, run(&m, N, s->call, s->list, s->value), s->number, s->given);
-        bad += compare(s->pool, s->call, &m, &right);
+        bad += answers(s->pool, s->call, run(m, N, s->call, s->list, s->value), s->number, s->given);
+        bad += compare(s->pool, s->call, m, &right);
     }
-    bad += refused("P10", p1(), N, POP_BACK, 1, 5);
+    return bad;
+}
+
+static int refusals(struct memory m)
+{
+    int bad = refused("P10", p1(), N, POP_BACK, 1, 5);
     bad += refused("P10, at the front", p1(), N, POP_FRONT, 1, 5);
     struct memory full = p1();
     full.book.list[0].limit = full.book.list[0].share = 0;
@@ -175,10 +191,150 @@ int main(void)
         if (call <= PUSH_FRONT)
             bad += refused("limit 0", full, N, (enum call)call, 0, 6);
     }
+    return bad;
+}
+
+// A number below another, from a fixed seed.
+static uint64_t dice(uint64_t below)
+{
+    static uint64_t state = 2;
+    uint64_t z = (state += 0x9e3779b97f4a7c15u);
+    z = (z ^ (z >> 30)) * 0xbf58476d1ce4e5b9u;
+    z = (z ^ (z >> 27)) * 0x94d049bb133111ebu;
+    z ^= z >> 31;
+    return below == 0 ? z : z % below;
+}
+
+// A pool on which random calls are made, and how many elements each of its lists has by the calls that were done.
+struct pool {
+    struct memory m;
+    size_t length[8];
+};
+
+static struct pool random_pool(void)
+{
+    struct pool p = { fresh(2 + dice(dice(2) == 0 ? 7 : ROOM - 1)), { 0 } };
+    const size_t most = p.m.slots - 1;
+    size_t left = most;
+    p.m.book.lists = (uint16_t)(1 + dice(8));
+    for (size_t k = 0; k < p.m.book.lists; k++) {
+        const size_t share = dice(3) == 0 ? 0 : dice(left + 1);
+        p.m.book.list[k].share = (uint16_t)share;
+        p.m.book.list[k].limit = (uint16_t)(dice(3) == 0 ? most : share + dice(most - share + 1));
+        left -= share;
+    }
+    return p;
+}
+
+static size_t free_slots(const struct pool *p)
+{
+    size_t many = p->m.slots - 1;
+    for (size_t k = 0; k < 8; k++)
+        many -= p->length[k];
+    return many;
+}
+
+// How many slots all lists together lack of their shares.
+static size_t lacks(const struct pool *p)
+{
+    size_t many = 0;
+    for (size_t k = 0; k < 8; k++)
+        many += p->m.book.list[k].share > p->length[k] ? p->m.book.list[k].share - p->length[k] : 0;
+    return many;
+}
+
+// The number that a call on a list that there is must give, by document 01.
+static uint16_t number_of(const struct pool *p, enum call call, uint16_t list)
+{
+    const struct list *entry = &p->m.book.list[list];
+    if (call >= POP_BACK)
+        return p->length[list] == 0 ? 5 : 0;
+    if (p->length[list] == entry->limit)
+        return 6;
+    return p->length[list] >= entry->share && free_slots(p) <= lacks(p) ? 7 : 0;
+}
+
+static struct value make(struct pool *p, enum call call, uint16_t list, uint64_t value)
+{
+    const struct value out = run(&p->m, p->m.slots, call, list, value);
+    if (out.refusal.number == 0)
+        p->length[list] += call >= POP_BACK ? (size_t)-1 : 1;
+    return out;
+}
+
+// How many calls were undone, in each of the cases that could go wrong.
+enum { PUSHES, LAST_SLOT, POPS, AT_LIMIT, NONE_SPARE, CASES };
+static const char *const cases[CASES] = { "push", "push of the last free slot", "pop", "pop at the limit", "pop with no slot to spare" };
+static unsigned long times[CASES];
+
+static void count(const struct pool *was, enum call call, uint16_t list)
+{
+    times[call >= POP_BACK ? POPS : PUSHES]++;
+    if (call >= POP_BACK) {
+        times[AT_LIMIT] += was->length[list] == was->m.book.list[list].limit;
+        times[NONE_SPARE] += free_slots(was) == lacks(was);
+    } else {
+        times[LAST_SLOT] += free_slots(was) == 1;
+    }
+}
+
+// A random call, up to `deep` more after it that are undone, and then the call at the same end that undoes it: a pop gives the value that
+// was pushed, or a push takes the value that was popped. Every cell and word must be as before. Answers how many are not.
+static int undone(struct pool *p, unsigned deep)
+{
+    const struct pool was = *p;
+    const enum call call = (enum call)dice(4);
+    const enum call opposite = (enum call)((call + 2) % 4);
+    const uint16_t list = (uint16_t)dice(p->m.book.lists);
+    const uint64_t value = dice(16) == 0 ? 0 : dice(0);
+    const uint16_t number = number_of(p, call, list);
+    const struct value given = make(p, call, list, value);
+    const uint64_t moved = call >= POP_BACK ? given.value : value;
+    int bad = differs("to be undone", call, "number", 0, given.refusal.number, number);
+    if (bad == 0 && number == 0) {
+        if (deep > 0)
+            bad += undone(p, deep - 1);
+        bad += answers("undone", opposite, make(p, opposite, list, moved), 0, call >= POP_BACK ? 0 : moved);
+        count(&was, call, list);
+    }
+    return bad + compare("undone", opposite, &p->m, &was.m);
+}
+
+// Random calls, of which some are undone and some stay. It ends at the first pool with a difference.
+static int undo_at_random(void)
+{
+    int bad = 0;
+    for (int pools = 0; bad == 0 && pools < 1000; pools++) {
+        struct pool p = random_pool();
+        for (size_t step = 0; bad == 0 && step < 3 * p.m.slots; step++) {
+            const enum call call = (enum call)(dice(4) == 0 ? dice(4) : dice(2) + (step < 2 * p.m.slots ? 0 : 2));
+            const uint16_t list = (uint16_t)dice(p.m.book.lists);
+            const uint16_t number = number_of(&p, call, list);
+            bad += differs("at random", call, "number", 0, make(&p, call, list, dice(0)).refusal.number, number);
+            bad += undone(&p, (unsigned)(dice(2) == 0 ? dice(8) : 0));
+        }
+    }
+    for (int k = 0; bad == 0 && k < CASES; k++)
+        if (times[k] == 0) {
+            printf("lent: no %s was undone, so nothing is known of it\n", cases[k]);
+            return 1;
+        }
+    return bad;
+}
+
+int main(void)
+{
+    struct memory m;
+    int bad = in_course(&m);
+    bad += refusals(m);
+    const int told = calls;
+    bad += undo_at_random();
     if (bad != 0) {
         printf("lent: %d differences in %d calls from C\n", bad, calls);
         return 1;
     }
-    printf("lent: %d calls from C over a lent book give document 01's numbers, cells and words\n", calls);
+    printf("lent: %d calls from C over a lent book give document 01's numbers, cells and words\n", told);
+    printf("lent: %lu pushes taken back, %lu of the last free slot, and %lu pops put back, %lu at the limit and %lu with no slot to spare, leave every cell and word as before\n",
+           times[PUSHES], times[LAST_SLOT], times[POPS], times[AT_LIMIT], times[NONE_SPARE]);
     return 0;
 }
