@@ -1,7 +1,7 @@
 // The desk: rows of 8,192 numbers in which the program keeps all that it works out. Past a row's end a read gives 0 and a write does nothing.
 
-// Thirty rows. An array of a known length asks no proof of its length after a call.
-pub(crate) type Desk = [u64; 245760];
+// Thirty-three rows. An array of a known length asks no proof of its length after a call.
+pub(crate) type Desk = [u64; 270336];
 
 // Rows 0 to 7 are the slots of each list, row 8 the free slots. How many each has, and where in its row the first one stands.
 pub(crate) const FREE: u64 = 8;
@@ -94,9 +94,20 @@ pub(crate) const VALUES_LENT: u64 = 14;
 // How many cells of each row are laid out for a call and compared after it.
 pub(crate) const SPAN: u64 = 15;
 
+// How many pops were undone by a push, and how many pushes by a pop.
+pub(crate) const PUT_BACK: u64 = 16;
+
+pub(crate) const TAKEN_BACK: u64 = 17;
+
+// The call that is to undo the last one, or 0 where that stays.
+pub(crate) const UNDOING: u64 = 18;
+
+// The pool of before a call by dice, for when that is undone: three rows, as above.
+pub(crate) const KEPT: u64 = 30;
+
 pub(crate) fn get(desk: &Desk, row: u64, place: u64) -> u64 {
     let k = index(row, place);
-    if k < 245760 {
+    if k < 270336 {
         return desk[k];
     }
     0
@@ -104,7 +115,7 @@ pub(crate) fn get(desk: &Desk, row: u64, place: u64) -> u64 {
 
 pub(crate) fn set(desk: &mut Desk, row: u64, place: u64, to: u64) {
     let k = index(row, place);
-    if k < 245760 {
+    if k < 270336 {
         desk[k] = to;
     }
 }

@@ -84,7 +84,7 @@ fn number(desk: &Desk, kind: u64) -> u64 {
 }
 
 // The two rows are compared.
-fn compare(desk: &mut Desk, got: u64, wanted: u64) {
+pub(crate) fn compare(desk: &mut Desk, got: u64, wanted: u64) {
     let span = get(desk, NOTES, SPAN);
     let place = first_difference(desk, got, wanted, span);
     if place < span {

@@ -78,6 +78,8 @@ pub(crate) fn summary(desk: &Desk) {
     word(b" of 10\ncalls ", get(desk, NOTES, CALLS));
     word(b"\ndamaged pools ", get(desk, NOTES, HURTS));
     word(b", not sound ", get(desk, NOTES, UNSOUND));
+    word(b"\npushes taken back ", get(desk, NOTES, TAKEN_BACK));
+    word(b", pops put back ", get(desk, NOTES, PUT_BACK));
     word(b"\ndifferences ", get(desk, NOTES, DIFFERENCES));
     say(b"\n");
 }

@@ -1,0 +1,42 @@
+// Calls undone: after a done push a pop at the same end, after a done pop a push of its value there. Pool and book must be as before.
+use crate::desk::*;
+use crate::expect;
+
+// For each call the one at the same end that undoes it, or 0 where there is none.
+const OPPOSITE: [u64; 10] = [0, 0, 0, 5, 6, 3, 4, 0, 0, 0];
+
+// Asks for the call that undoes the last one, and notes beside the kept book what it must give: a pop what was pushed, and a push, which
+// puts back what was popped, 0.
+pub(crate) fn ask(desk: &mut Desk, kind: u64) {
+    let pushed = get(desk, NOTES, PUSHED);
+    let popped = get(desk, GOT, VALUE);
+    set(desk, NOTES, KIND, kind);
+    match kind {
+        5 | 6 => set_four(desk, KEPT + 2, NUMBER, 0, pushed, 0, 0),
+        _ => {
+            set_four(desk, KEPT + 2, NUMBER, 0, 0, 0, 0);
+            set(desk, NOTES, PUSHED, popped);
+        }
+    }
+}
+
+// After a call. One by dice is to be undone next, now and then, if it was done. One that undid another is held to what was kept, in
+// which the deque has no part.
+pub(crate) fn after(desk: &mut Desk, seed: u64, undoing: u64) {
+    let refused = get(desk, GOT, NUMBER) | dice(seed, 28, 4);
+    let kind = (get(desk, NOTES, KIND) % 10) as usize;
+    let next = match refused {
+        0 => OPPOSITE[kind],
+        _ => 0,
+    };
+    match undoing {
+        0 => set(desk, NOTES, UNDOING, next),
+        _ => {
+            set(desk, NOTES, UNDOING, 0);
+            add_to(desk, NOTES, plus(PUT_BACK, undoing / 5), 1);
+            expect::compare(desk, GOT, KEPT + 2);
+            expect::compare(desk, GOT_LINKS, KEPT);
+            expect::compare(desk, GOT_VALUES, KEPT + 1);
+        }
+    }
+}
