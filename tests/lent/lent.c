@@ -194,7 +194,7 @@ static int refusals(struct memory m)
     return bad;
 }
 
-// A number below another, from a fixed seed.
+// A number below another, or any number where that is 0, from a fixed seed.
 static uint64_t dice(uint64_t below)
 {
     static uint64_t state = 2;
@@ -297,7 +297,7 @@ static int undone(struct pool *p, unsigned deep)
         bad += answers("undone", opposite, make(p, opposite, list, moved), 0, call >= POP_BACK ? 0 : moved);
         count(&was, call, list);
     }
-    return bad + compare("undone", opposite, &p->m, &was.m);
+    return bad + compare(number == 0 ? "undone" : "refused", number == 0 ? opposite : call, &p->m, &was.m);
 }
 
 // Random calls, of which some are undone and some stay. It ends at the first pool with a difference.

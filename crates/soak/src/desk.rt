@@ -94,15 +94,15 @@ pub(crate) const VALUES_LENT: u64 = 14;
 // How many cells of each row are laid out for a call and compared after it.
 pub(crate) const SPAN: u64 = 15;
 
-// How many pops were undone by a push, and how many pushes by a pop.
+// How many pops a push has put back, and in the next place how many pushes a pop has taken back.
 pub(crate) const PUT_BACK: u64 = 16;
 
 pub(crate) const TAKEN_BACK: u64 = 17;
 
-// The call that is to undo the last one, or 0 where that stays.
+// The call that undoes the last one, if it is the next; else 0.
 pub(crate) const UNDOING: u64 = 18;
 
-// The pool of before a call by dice, for when that is undone: three rows, as above.
+// The pool of before a call by dice, to compare with when that is undone: three rows, as above, and after the book number and value.
 pub(crate) const KEPT: u64 = 30;
 
 pub(crate) fn get(desk: &Desk, row: u64, place: u64) -> u64 {

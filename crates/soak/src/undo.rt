@@ -5,7 +5,7 @@ use crate::expect;
 // For each call the one at the same end that undoes it, or 0 where there is none.
 const OPPOSITE: [u64; 10] = [0, 0, 0, 5, 6, 3, 4, 0, 0, 0];
 
-// Asks for the call that undoes the last one, and notes beside the kept book what it must give: a pop what was pushed, and a push, which
+// Asks for the call that undoes the last one, and notes after the kept book what it must give: a pop what was pushed, and a push, which
 // puts back what was popped, 0.
 pub(crate) fn ask(desk: &mut Desk, kind: u64) {
     let pushed = get(desk, NOTES, PUSHED);
@@ -20,12 +20,12 @@ pub(crate) fn ask(desk: &mut Desk, kind: u64) {
     }
 }
 
-// After a call. One by dice is to be undone next, now and then, if it was done. One that undid another is held to what was kept, in
-// which the deque has no part.
+// After a call. One by dice that was done is undone next, now and then. One that undid another is held to the pool and the book that were
+// kept: the deque has been asked already, but it may be wrong in the same way as the library.
 pub(crate) fn after(desk: &mut Desk, seed: u64, undoing: u64) {
-    let refused = get(desk, GOT, NUMBER) | dice(seed, 28, 4);
+    let stays = get(desk, GOT, NUMBER) | dice(seed, 32, 4);
     let kind = (get(desk, NOTES, KIND) % 10) as usize;
-    let next = match refused {
+    let next = match stays {
         0 => OPPOSITE[kind],
         _ => 0,
     };
