@@ -9,9 +9,10 @@ use lib.Seq.{ext-getD}
 use Rattle.books.specs.declared.Entry.{Entry}
 use Rattle.books.specs.declared.Book.{Book}
 use Rattle.books.specs.Book.{zeroEntry, entryAt, entryWords, wordsOf}
+use Rattle.books.specs.Place.{Place}
 use Rattle.books.specs.Tabulate.{tabulate}
 use Rattle.books.proofs.Tabulate.{tabulate-length, tabulate-at}
-use Rattle.books.specs.Words.{entryFrom, entriesFrom, bookFrom}
+use Rattle.books.specs.Words.{entryFrom, entriesFrom, bookFrom, placeFrom}
 
 -- four times a number, counted up as the words are
 four : ℕ → ℕ
@@ -119,3 +120,15 @@ entry-past words l h = List·getD-eq-default (entriesFrom words) zeroEntry (omeg
 
 pub entries-many : (words : List ℕ) → length (entriesFrom words) ≡ 8
 entries-many words = tabulate-length 8 (entryFrom words)
+
+-- two words are the place that is read from them, and no other two are
+pub place-words : (words : List ℕ) → length words ≡ 2 → words ≡ placeFrom words .list ∷ placeFrom words .position ∷ []
+place-words words h = ext-getD 0 words (getD words 0 0 ∷ getD words 1 0 ∷ []) h at
+  where
+    at : (i : ℕ) → i < length words → getD words i 0 ≡ getD (getD words 0 0 ∷ getD words 1 0 ∷ []) i 0
+    at zero p = refl
+    at (suc zero) p = refl
+    at (suc (suc i)) p = absurd (omega (arith, h))
+
+pub place-words-one : (words other : List ℕ) → length words ≡ 2 → length other ≡ 2 → placeFrom words ≡ placeFrom other → words ≡ other
+place-words-one words other h k e = place-words words h ∙ ap (λ (p : Place). p .list ∷ p .position ∷ []) e ∙ sym (place-words other k)

@@ -18,7 +18,7 @@ table-at f m n table e i j p q =
     ap (λ (t : List (List Bool)). getD (getD t i []) j false) e ∙ ap (λ (r : List Bool). getD r j false) (tabulate-at [] m (λ k. tabulate n (f k)) i p) ∙ tabulate-at false n (f i) j q
 
 -- of each row the last number that its call gives, and one that it does not
-pub rows-tried : (mayGive 0 2 ≡ true) × (mayGive 0 3 ≡ false) × (mayGive 1 3 ≡ true) × (mayGive 1 2 ≡ false) × (mayGive 2 4 ≡ true) × (mayGive 2 5 ≡ false)
+pub rows-tried : (mayGive 0 2 ≡ true) × (mayGive 0 3 ≡ false) × (mayGive 1 1 ≡ true) × (mayGive 1 2 ≡ false) × (mayGive 2 4 ≡ true) × (mayGive 2 5 ≡ false)
     × (mayGive 3 7 ≡ true) × (mayGive 3 5 ≡ false) × (mayGive 4 7 ≡ true) × (mayGive 4 5 ≡ false) × (mayGive 5 5 ≡ true) × (mayGive 5 6 ≡ false)
     × (mayGive 6 5 ≡ true) × (mayGive 6 6 ≡ false) × (mayGive 7 8 ≡ true) × (mayGive 7 5 ≡ false) × (mayGive 8 8 ≡ true) × (mayGive 8 5 ≡ false)
     × (mayGive 9 4 ≡ true) × (mayGive 9 5 ≡ false)
@@ -47,10 +47,10 @@ row-below n [] i h = refl
 row-below n (r ∷ rs) zero h = and-both (all-below n r) (rows-below n rs) h .0
 row-below n (r ∷ rs) (suc i) h = row-below n rs i (and-both (all-below n r) (rows-below n rs) h .1)
 
--- no call gives 9 or more
-pub no-number : (call number : ℕ) → 9 ≤ number → mayGive call number ≡ false
+-- no call gives 16 or more
+pub no-number : (call number : ℕ) → 16 ≤ number → mayGive call number ≡ false
 unfolding mayGive
-no-number call number p = not-among 9 (getD rows call []) number (row-below 9 rows call refl) p
+no-number call number p = not-among 16 (getD rows call []) number (row-below 16 rows call refl) p
 
 -- there is no call number 10 or more
 pub no-call : (call number : ℕ) → 10 ≤ call → mayGive call number ≡ false

@@ -1,6 +1,7 @@
 // The records of a pool's book and of the calls' answers, with the book's constants; nothing here knows of links.
 ghost use mathlib.Core.Path.{_≡_};
 ghost use Rattle.books.specs.Book.{zeroEntry, zeroBook};
+ghost use Rattle.books.specs.Place.{numbered};
 
 // The idle chain: its first slot, or 0. It is passed whole, so that a new field changes no signature.
 #[repr(C)]
@@ -17,10 +18,13 @@ pub struct Entry {
     pub limit: u16,
 }
 
-// The number that a call answers with, 0 for done.
+// The number that a call answers with, 0 for done, and for 11 to 15 where the first broken rule is broken: the list and the position that the
+// number sets, and else 0.
 #[repr(C)]
 pub struct Refusal {
     pub number: u16,
+    pub list: u16,
+    pub position: u16,
 }
 
 // How many lists there are, one entry for each, the rest all zero, and the idle chain.
@@ -76,6 +80,19 @@ impl Entry {
             tail: 0,
             share: 0,
             limit: 0,
+        }
+    }
+}
+
+impl Refusal {
+    // A number that sets no place.
+    pub fn numbered(number: u16) -> Self
+        ensures { λ r. ⌜ r ≡ numbered number ⌝ }
+    {
+        Refusal {
+            number,
+            list: 0,
+            position: 0,
         }
     }
 }

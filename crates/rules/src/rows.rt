@@ -1,20 +1,24 @@
-// Which numbers each call can give: 01's ten-by-nine table.
+// Which numbers each call can give: 01's table, with 02 b)'s numbers.
 ghost use mathlib.Core.Path.{_≡_};
 ghost use Rattle.books.specs.Table.{mayGive};
 
+const Y: bool = true;
+
+const N: bool = false;
+
 // A row for each call, in 01's order: setup, check, length, push back, push front, pop back, pop front, read forward, read backward, clear.
-// A place for each number from 0 to 8.
-const TABLE: [[bool; 9]; 10] = [
-    [true, true, true, false, false, false, false, false, false],
-    [true, true, false, true, false, false, false, false, false],
-    [true, true, false, true, true, false, false, false, false],
-    [true, true, false, true, true, false, true, true, false],
-    [true, true, false, true, true, false, true, true, false],
-    [true, true, false, true, true, true, false, false, false],
-    [true, true, false, true, true, true, false, false, false],
-    [true, true, false, true, true, false, false, false, true],
-    [true, true, false, true, true, false, false, false, true],
-    [true, true, false, true, true, false, false, false, false],
+// A place for each number from 0 to 15.
+const TABLE: [[bool; 16]; 10] = [
+    [Y, Y, Y, N, N, N, N, N, N, N, N, N, N, N, N, N],
+    [Y, Y, N, N, N, N, N, N, N, Y, Y, Y, Y, Y, Y, Y],
+    [Y, Y, N, N, Y, N, N, N, N, Y, Y, Y, Y, Y, Y, Y],
+    [Y, Y, N, N, Y, N, Y, Y, N, Y, Y, Y, Y, Y, Y, Y],
+    [Y, Y, N, N, Y, N, Y, Y, N, Y, Y, Y, Y, Y, Y, Y],
+    [Y, Y, N, N, Y, Y, N, N, N, Y, Y, Y, Y, Y, Y, Y],
+    [Y, Y, N, N, Y, Y, N, N, N, Y, Y, Y, Y, Y, Y, Y],
+    [Y, Y, N, N, Y, N, N, N, Y, Y, Y, Y, Y, Y, Y, Y],
+    [Y, Y, N, N, Y, N, N, N, Y, Y, Y, Y, Y, Y, Y, Y],
+    [Y, Y, N, N, Y, N, N, N, N, Y, Y, Y, Y, Y, Y, Y],
 ];
 
 // Can the call give the number? False for a call or a number that there is not.
@@ -22,7 +26,7 @@ pub fn may_give(call: usize, number: usize) -> bool
     ensures { λ r. ⌜ r ≡ mayGive call number ⌝ }
 {
     if call < 10 {
-        if number < 9 {
+        if number < 16 {
             return TABLE[call][number];
         }
     }

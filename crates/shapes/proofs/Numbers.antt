@@ -41,10 +41,10 @@ given-only (N.later n g) (N.later m h) = given-only g h
 
 -- ---- tests after other tests
 
--- no test has number 0
+-- no test that applies has number 0
 pub data Numbered : List Test → Type 0 where
   nil : Numbered []
-  cons : {t : Test} {ts : List Test} → t .number ≢ 0 → Numbered ts → Numbered (t ∷ ts)
+  cons : {t : Test} {ts : List Test} → (t .applies ≡ true → t .number ≢ 0) → Numbered ts → Numbered (t ∷ ts)
 
 -- where one of the first applies, those after them do not count
 pub first-first : (ts us : List Test) → firstThat ts ≢ 0 → firstThat (ts ++ us) ≡ firstThat ts
@@ -61,7 +61,7 @@ first-then us nil z = refl
 first-then us (cons {t} {ts} d n) z = go (t .applies) refl (λ k. first-then us n k)
   where
     go : (b : Bool) → t .applies ≡ b → (firstThat ts ≡ 0 → firstThat (ts ++ us) ≡ firstThat us) → firstThat (t ∷ ts ++ us) ≡ firstThat us
-    go true e r = absurd (d (rw e at z))
+    go true e r = absurd (d e (rw e at z))
     go false e r = rw e (r (rw e at z))
 
 module _ {A : Type 0} (done : A) (refused : ℕ → A) where

@@ -5,7 +5,7 @@ use mathlib.Core.List.{List, [], _∷_}
 use Prim.Native.Nat.{ℕ, zero, suc, _≤_, _<_}
 use native.Mathlib.Omega.{arith}
 use lib.Dec.{lit<}
-use lib.ListN.{getD}
+use lib.ListN.{getD, set, replicate}
 use Rattle.books.specs.declared.Entry.{Entry}
 use Rattle.books.specs.Book.{wipeWord}
 use Rattle.shapes.specs.declared.End.the-variants.{Front, Back}
@@ -76,8 +76,8 @@ abbrev gathered : Gathered
 gathered = gatherOne 1 3 2 (granted 0 0) 1 (gatherOne 1 3 1 (granted 4 1) 2 (gatherOne 1 3 0 (granted 2 3) 3 (gatheredNone 3)))
 
 pub gather-tried : (gathered .live ≡ 6) × (gathered .lacks ≡ 2) × (gathered .over ≡ 1) × (gathered .length ≡ 2) × (gathered .fault ≡ noFault)
-    × (gatherFault 1 4 gathered .fault ≡ fault 11 1 4)
-gather-tried = (refl, refl, refl, refl, refl, refl)
+    × (gatherFault 1 4 gathered .fault ≡ fault 11 1 4) × (gatherFault 7 4095 gathered .fault ≡ fault 11 7 4095)
+gather-tried = (refl, refl, refl, refl, refl, refl, refl)
 
 -- the largest pool: one list has every slot, or lacks every one
 pub gather-largest : (gatherOne 0 1 0 (granted 4095 4095) 4095 (gatheredNone 1) .live ≡ 4095) × (gatherOne 0 1 0 (granted 4095 4095) 4095 (gatheredNone 1) .length ≡ 4095)
@@ -88,10 +88,11 @@ gather-largest = (refl, refl, refl)
 pub unwiped-tried : unwipedFrom (0 ∷ three 0 7 9) (three 3 1 2) 0 ≡ 2
 unwiped-tried = refl
 
--- of slots 1 to 3 slot 1 was met; then all were
+-- of slots 1 to 3 slot 1 was met; then all were; of the last two slots of the largest pool the last was not
 pub unmet-tried : (lowestUnmet (0 ∷ three 1 0 0) 1 3 ≡ 2) × (lowestUnmet (0 ∷ three 1 1 1) 1 3 ≡ 4)
+    × (lowestUnmet (set (replicate 4096 1) 4095 0) 4094 2 ≡ 4095)
 unfolding isMetOf
-unmet-tried = (refl, refl)
+unmet-tried = (refl, refl, refl)
 
 -- what was gathered of two lists: the live slots, what is lacked, and the list over its limit, 2 for none
 abbrev found : ℕ → ℕ → ℕ → Gathered

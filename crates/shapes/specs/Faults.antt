@@ -5,6 +5,8 @@ use Prim.Native.Nat.{ℕ, zero, suc, _+_, _-_}
 use lib.Dec.{ltb, leb, eqb}
 use lib.ListN.{length, replicate}
 use Rattle.books.specs.declared.Entry.{Entry}
+use Rattle.books.specs.Place.{Place, noPlace, refusalOf, numbered}
+use Rattle.books.specs.declared.Refusal.{Refusal}
 use Rattle.books.specs.Book.{nullSlot}
 use Rattle.shapes.specs.Met.{isMetOf}
 use Rattle.shapes.specs.declared.Fault.{Fault}
@@ -17,6 +19,22 @@ fault rule list place = record { rule = rule; list = list; place = place }
 
 abbrev pub noFault : Fault
 noFault = fault 0 0 0
+
+-- where the fault is: a list and a position, 0 where the rule sets none
+abbrev pub placeOf : Fault → Place
+placeOf f = record { list = f .list; position = f .place }
+
+-- the place that goes with a number: the fault's where the number is its rule, and none with any other number
+abbrev pub placeFor : Fault → ℕ → Place
+placeFor f number = cond (eqb (f .rule) number) (placeOf f) noPlace
+
+-- the answer with that number, and with the place that goes with it
+abbrev pub answering : Fault → ℕ → Refusal
+answering f number = refusalOf number (placeFor f number)
+
+-- the answer that names the fault
+abbrev pub naming : Fault → Refusal
+naming f = refusalOf (f .rule) (placeOf f)
 
 -- before the first list none of the N slots was met
 unfoldable pub nothingMet : ℕ → List ℕ
@@ -76,5 +94,9 @@ abbrev pub faulty : Fault → Found
 faulty f = record { fault = f; length = 0; lacks = 0; free = 0 }
 
 -- a refusal before or by the check: nothing was found
-abbrev pub refusedBy : ℕ → Looked
-refusedBy number = record { refusal = record { number = number }; found = faulty noFault }
+abbrev pub refusedBy : Refusal → Looked
+refusedBy refusal = record { refusal = refusal; found = faulty noFault }
+
+-- no refusal, and what the check found
+abbrev pub lookedFine : Found → Looked
+lookedFine found = record { refusal = numbered 0; found = found }

@@ -186,6 +186,9 @@ faultsTried =
     ∷ gave 4096 8 0 4095 8 true 4095 0 noFault
     -- 12: the free walk did not end
     ∷ gave 6 2 3 2 2 false 2 0 (fault 12 0 2)
+    ∷ gave 4096 8 0 0 8 false 4095 0 (fault 12 0 4095)
+    -- 12 before a list over its limit and uncovered shares, and before a slot of the walk that is not wiped
+    ∷ gave 6 2 3 9 0 false 2 1 (fault 12 0 2)
     -- 13: a slot too few, and one too many
     ∷ gave 6 2 2 2 2 true 2 0 (fault 13 0 1)
     ∷ gave 6 2 3 2 2 true 3 0 (fault 13 0 1)
@@ -194,6 +197,11 @@ faultsTried =
     ∷ gave 6 2 3 2 2 true 2 1 (fault 14 0 1)
     ∷ gave 6 2 3 2 2 true 2 5 (fault 14 0 5)
     ∷ gave 4096 8 0 0 8 true 4095 4095 (fault 14 0 4095)
+    -- 13 before a list over its limit, 14 before one, and both before uncovered shares where no list is over
+    ∷ gave 6 2 2 2 0 true 2 0 (fault 13 0 1)
+    ∷ gave 6 2 2 3 2 true 2 0 (fault 13 0 1)
+    ∷ gave 6 2 3 2 0 true 2 5 (fault 14 0 5)
+    ∷ gave 6 2 3 3 2 true 2 5 (fault 14 0 5)
     -- 15: any list that is over its limit; L, where one slot more is lacked than is free
     ∷ gave 6 2 3 2 0 true 2 0 (fault 15 0 0)
     ∷ gave 6 2 3 2 1 true 2 0 (fault 15 1 0)

@@ -7,6 +7,7 @@ use lib.Dec.{leb, ltb, eqb}
 use lib.ListN.{length, getD}
 use Rattle.books.specs.declared.Entry.{Entry}
 use Rattle.books.specs.declared.Read.{Read}
+use Rattle.books.specs.declared.Refusal.{Refusal}
 use Rattle.shapes.specs.Numbers.{Test, test}
 
 -- a push's own tests, 6 and 7: of a list that has `many` slots, where the check found `lacking` and `free`
@@ -32,8 +33,8 @@ pub record ReadLeft : Type 0 where
 abbrev pub readLeft : Read → List ℕ → ReadLeft
 readLeft answer buffer = record { answer = answer; buffer = buffer }
 
-abbrev pub readOf : ℕ → ℕ → Read
-readOf number count = record { refusal = record { number = number }; count = count }
+abbrev pub readOf : Refusal → ℕ → Read
+readOf refusal count = record { refusal = refusal; count = count }
 
 -- on any cells: only the places from `at` on, as many as were counted, may change
 pub record Keeps (buffer : List ℕ) (at count : ℕ) (after : List ℕ) : Type 0 where

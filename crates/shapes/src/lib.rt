@@ -57,7 +57,7 @@ pub struct IdleWalk {
     pub unwiped: u16,
 }
 
-// The first rule that is broken, with a list and a place, 0 where none applies. Rule 0 is no fault. No call hands it out yet.
+// The first rule that is broken, with a list and a place, 0 where none applies. Rule 0 is no fault.
 // 9 is L, shares and limits; 10 slot 0; 11 a live chain; 12 the idle chain; 13 a slot in no chain; 14 a free slot that is not wiped; 15 limits and shares.
 #[repr(C)]
 pub struct Fault {
@@ -85,7 +85,7 @@ pub struct Found {
     pub free: usize,
 }
 
-// A number, and what the check found: nothing where the number is not 0. The number is 1, 3 or 0.
+// A number with its place, and what the check found: nothing where the number is not 0. The number is 1, from 9 to 15, or 0.
 pub struct Looked {
     pub refusal: Refusal,
     pub found: Found,
