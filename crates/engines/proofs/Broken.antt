@@ -32,8 +32,9 @@ use Rattle.engines.specs.FirstFault.PoolBreaks.{ten, eleven, twelve, thi
 use Rattle.engines.specs.Check.{nullSlotZero, idleFound, poolFound}
 use Rattle.engines.proofs.Leads.{passes-distinct, distinct-part}
 use Rattle.engines.proofs.Missing.{full-covers, covers-full, missing-lowest, lowest-missing, lowest-one, over-one}
-use Rattle.engines.proofs.Stops.{gather-halts, gather-halted}
+use Rattle.engines.proofs.Stops.{gather-halted}
 use Rattle.engines.proofs.Idle.{idle-fresh, idle-stands, idle-stops, stage-12, stage-13, stage-14, stage-over, stage-short, stage-fine}
+use Rattle.engines.proofs.Positions.{IdleHalts, halts-first, halts-idle, round-halts, first-halts, first-idle-halts}
 use Rattle.engines.proofs.Chains.{nothing-seen, nothing-walkable, roundOf, round-walkable, chained-sums, chained-known, round-told, pathOf, path-chained, all-sums, all-path, all-known, all-counted}
 
 -- the test of slot 0 is true exactly where its links and its value are 0
@@ -125,6 +126,20 @@ module _ {E : Engine} (L : Lawful E) (wanted : ℕ) (links : E .Links) (values :
             ∙ stage-fine _ (E .size links) (length es) _ (length (s .idle)) _ all clean (all-sums L wanted links values es free fit A .over refl .1 short)
             (omega (arith, all-sums L wanted links values es free fit A .lacking))
 
+  -- ---- all lists are there, and the free chain is broken
+
+  gives-12 : NullZero E links values → (cs : List (List ℕ)) (xs : List ℕ) (next : ℕ) → IdleHalts E links es free cs xs next → given ≡ fault 12 0 (length xs)
+  gives-12 z cs xs next H =
+      ap (λ (f : Found). f .fault) (pool-idle E wanted links values es free (null-exactly L links values .1 z) (ap (λ f. f .rule) (chained-sums L wanted links es some (H .chained) D .fault)))
+      ∙ ap (stagesOf E wanted links values es free) path ∙ stage-12 _ (E .size links) (length es) _ (length xs) _
+    where
+      D : Distinct (E .size links) (joinedUp cs)
+      D = distinct-part (joinedUp cs) (joinedUp cs ++ xs) (λ y. omega (arith, count-append y (joinedUp cs) xs)) (H .distinct)
+
+      path : pathOf E wanted links values es free ≡ record { ok = false; slots = xs }
+      path =
+          idle-stops E links values _ free (fit .same) (round-walkable L wanted links es some) (joinedUp cs) (chained-known L wanted links es some (H .chained) D) xs (H .distinct) next (H .leads) (H .broken)
+
   -- ---- the check gives the rule that is first broken
 
   pub pool-breaks : {f : Fault} → PoolBreaks E links values es free f → given ≡ f
@@ -134,24 +149,12 @@ module _ {E : Engine} (L : Lawful E) (wanted : ℕ) (links : E .Links) (values :
       go true k = absurd (n (null-exactly L links values .0 k))
       go false k = refl
   pool-breaks (eleven {l} {place} e z B) =
-      pool-fault E wanted links values es free (null-exactly L links values .1 z) (λ k. omega (arith, sym (ap (λ f. f .rule) halted) ∙ k)) ∙ halted ∙ ap (fault 11 l) (sym (B .placed)) ∙ sym e
-    where
-      halted : roundOf E wanted links es .gathered .fault ≡ fault 11 l (length (B .slots))
-      halted =
-          gather-halted E L wanted (length es) links 0 es (nothingMet (E .size links)) (gatheredNone (length es)) [] l (B .chains) (B .slots) (B .next) (nothing-seen (E .size links)) (nothing-walkable (E .size links) some)
-          (record { below = B .below; chained = B .chained; leads = B .leads; distinct = B .distinct; broken = B .broken })
-          ∙ ap (λ i. fault 11 i (length (B .slots))) (zero-add l)
-  pool-breaks (twelve {place} e z B) =
-      ap (λ (f : Found). f .fault) (pool-idle E wanted links values es free (null-exactly L links values .1 z) (ap (λ f. f .rule) (chained-sums L wanted links es some (B .chained) D .fault)))
-      ∙ ap (stagesOf E wanted links values es free) path
-      ∙ stage-12 _ (E .size links) (length es) _ (length (B .slots)) _ ∙ ap (fault 12 0) (sym (B .placed)) ∙ sym e
-    where
-      D : Distinct (E .size links) (joinedUp (B .chains))
-      D = distinct-part (joinedUp (B .chains)) (joinedUp (B .chains) ++ B .slots) (λ y. omega (arith, count-append y (joinedUp (B .chains)) (B .slots))) (B .distinct)
-
-      path : pathOf E wanted links values es free ≡ record { ok = false; slots = B .slots }
-      path =
-          idle-stops E links values _ free (fit .same) (round-walkable L wanted links es some) (joinedUp (B .chains)) (chained-known L wanted links es some (B .chained) D) (B .slots) (B .distinct) (B .next) (B .leads) (B .broken)
+      let (cs, xs, next, H, p) = first-halts L links es some B in
+      let halted : roundOf E wanted links es .gathered .fault ≡ fault 11 l (length xs) =
+      gather-halted E L wanted (length es) links 0 es (nothingMet (E .size links)) (gatheredNone (length es)) [] l cs xs next (nothing-seen (E .size links)) (nothing-walkable (E .size links) some) H
+      ∙ ap (λ i. fault 11 i (length xs)) (zero-add l) in
+      pool-fault E wanted links values es free (null-exactly L links values .1 z) (λ k. omega (arith, sym (ap (λ f. f .rule) halted) ∙ k)) ∙ halted ∙ ap (fault 11 l) (sym p) ∙ sym e
+  pool-breaks (twelve {place} e z B) = let (cs, xs, next, H, p) = first-idle-halts L links es some free B in gives-12 z cs xs next H ∙ ap (fault 12 0) (sym p) ∙ sym e
   pool-breaks (thirteen e z A u) = gives-13 z A u ∙ sym e
   pool-breaks (fourteen e z A c low) = gives-14 z A c low ∙ sym e
   pool-breaks (fifteen e z A c w o) = gives-15 z A c w o ∙ sym e
@@ -216,37 +219,17 @@ module _ {E : Engine} (L : Lawful E) (wanted : ℕ) (links : E .Links) (values :
           let (next, l, b) = idle-stands E links values _ free (fit .same) (round-walkable L wanted links es some) (joinedUp cs) K e in
           inl (
             fault 12 0 (length (pathOf E wanted links values es free .slots)),
-            twelve refl z (record {
-              chains = cs;
+            twelve refl z (halts-idle L links es free {cs = cs} (record {
               chained = C;
-              slots = pathOf E wanted links values es free .slots;
-              next = next;
               leads = l;
               distinct = passes-distinct (E .size links) _ (joinedUp cs) K _ D (idle-fresh E links values _ free);
-              placed = refl;
               broken = b;
-            }),
+            })),
           )
 
       lives : NullZero E links values → Dec (roundOf E wanted links es .gathered .fault .rule ≡ 0) → Broken ⊎ Fine
       lives z (yes e) = let (cs, C, D) = round-told L wanted links es some e in idles z cs C D (pathOf E wanted links values es free .ok) refl
-      lives z (no n) =
-          let (l, cs, xs, next, H) = gather-halts E L wanted (length es) links 0 es (nothingMet (E .size links)) (gatheredNone (length es)) [] (nothing-seen (E .size links))
-          (record { inside = λ y h. absurd (not-suc-le-zero h); once = λ y. omega arith }) (nothing-walkable (E .size links) some) refl n in
-          inl (
-            fault 11 l (length xs),
-            eleven refl z (record {
-              below = H .below;
-              chains = cs;
-              chained = H .chained;
-              slots = xs;
-              next = next;
-              leads = H .leads;
-              distinct = H .distinct;
-              placed = refl;
-              broken = H .broken;
-            }),
-          )
+      lives z (no n) = let (l, cs, xs, next, H) = round-halts L links es some wanted n in inl (fault 11 l (length xs), eleven refl z (halts-first L links es H))
 
       start : (b : Bool) → nullSlotZero E links values ≡ b → Broken ⊎ Fine
       start true e = lives (null-exactly L links values .0 e) (ℕ-discrete (roundOf E wanted links es .gathered .fault .rule) 0)

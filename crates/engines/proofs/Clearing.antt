@@ -134,6 +134,7 @@ module _ {E : Engine} (L : Lawful E) where
       record {
         listed = below;
         number = refl;
+        unplaced = refl;
         noValue = refl;
         sound = sound-set S l below (r .entry) (C .size) (C .share) (C .limit)
             (sound-put L (S .pool) (r .links) (r .values) l (r .entry) (r .free) [] (reverse xs ++ s .idle) (listed S l below) (C .size)

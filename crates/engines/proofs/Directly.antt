@@ -134,6 +134,7 @@ module _ {E : Engine} (L : Lawful E) (places : ℕ) (links : E .Links) (values :
       same-size K =
           record {
             number = K .number;
+            unplaced = K .unplaced;
             noValue = K .noValue;
             samePlaces = K .samePlaces;
             asMany = K .asMany;

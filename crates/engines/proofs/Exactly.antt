@@ -1,4 +1,4 @@
--- Which of 6, 7 and 0 a push gets on a list of a sound pool, which of 5 and 0 a pop, which of 8 and 0 a read; that length and clear are done, and that no call on a sound pool gets 1 or 3; on any engine.
+-- Which of 6, 7 and 0 a push gets on a list of a sound pool, which of 5 and 0 a pop, which of 8 and 0 a read; that length and clear are done, and that no call on a sound pool gets 1 or one of 9 to 15; on any engine.
 use mathlib.Core.Path.{_≡_, refl, ap, subst}
 use mathlib.Core.Logic.{_↔_, _≢_, _⊎_, inl, inr, ⊎-elim}
 use mathlib.Core.List.{List, [], _∷_, _++_}
@@ -8,40 +8,43 @@ use native.Mathlib.Omega.{arith}
 use lib.ListN.{length, take}
 use Rattle.books.specs.declared.Entry.{Entry}
 use Rattle.books.specs.Book.{entryAt, AnyBook}
+use Rattle.books.specs.Table.{faultRules}
 use Rattle.shapes.specs.declared.End.{End}
 use Rattle.shapes.specs.Shape.{Shape, chainAt, lacks, Room}
-use Rattle.shapes.specs.Numbers.{Condition, condition, Given}
+use Rattle.shapes.specs.Numbers.{Condition, Given}
 use Rattle.shapes.specs.Numbers as N
 use Rattle.shapes.proofs.Numbers.{given-only}
 use Rattle.engines.specs.Engine.{Engine}
 use Rattle.engines.specs.Sound.{Fit, SoundBook}
 use Rattle.engines.specs.Laws.{Lawful}
-use Rattle.engines.specs.Conditions.{OfShape, checkConditions, listConditions, pushConditions, popConditions, TooSmall, readConditions}
+use Rattle.engines.specs.Conditions.{OfShape, rulesBroken, checkConditions, listConditions, pushConditions, popConditions, TooSmall, readConditions}
 use Rattle.engines.specs.Calls.{lengthCall, pushCall, popCall, clearCall, readCall}
 use Rattle.engines.proofs.Shape.{unique-book}
 use Rattle.engines.proofs.Found.{entry-is, within}
-use Rattle.engines.proofs.When.{length-given, push-given, pop-given, clear-given, read-given}
+use Rattle.engines.proofs.FirstFault.{sound-unbroken}
+use Rattle.engines.proofs.When.{none-broken, length-given, push-given, pop-given, clear-given, read-given}
 
--- ---- 1 and 3
+-- ---- 1, and 9 to 15
 
--- conditions whose numbers come after 3
-abbrev pub PastThree : List Condition → Type 0
-PastThree [] = Unit
-PastThree (c ∷ cs) = (3 < c .number) × PastThree cs
+-- conditions of the calls' own, with numbers from 4 to 8
+abbrev pub OwnNumbers : List Condition → Type 0
+OwnNumbers [] = Unit
+OwnNumbers (c ∷ cs) = (3 < c .number) × (c .number < 9) × OwnNumbers cs
 
-later-number : {cs : List Condition} {n : ℕ} → PastThree cs → Given cs n → (n ≢ 1) × (n ≢ 3)
-later-number p N.done = omega arith
-later-number p (N.this h) = let q = p .0 in omega arith
-later-number p (N.later h g) = later-number (p .1) g
+own-number : {cs : List Condition} {n : ℕ} → OwnNumbers cs → Given cs n → (n ≢ 1) × (n < 9)
+own-number p N.done = omega arith
+own-number p (N.this h) = let q = p .0 in let r = p .1 in omega arith
+own-number p (N.later h g) = own-number (p .2) g
 
-past-both : {A B : Type 0} {cs : List Condition} {n : ℕ} → (A → ⊥) → (B → ⊥) → PastThree cs → Given (condition 1 A ∷ condition 3 B ∷ cs) n → (n ≢ 1) × (n ≢ 3)
-past-both a b p (N.this h) = absurd (a h)
-past-both a b p (N.later k (N.this h)) = absurd (b h)
-past-both a b p (N.later k (N.later j g)) = later-number p g
+module _ {E : Engine} (L : Lawful E) {links : E .Links} {values : List ℕ} {b : AnyBook} {s : Shape} (S : SoundBook E links values b s) where
+  past-rules : (ks : List ℕ) {cs : List Condition} {n : ℕ} → Given (rulesBroken E links values b ks ++ cs) n → Given cs n
+  past-rules [] g = g
+  past-rules (k ∷ ks) (N.this (l, p, B)) = absurd (sound-unbroken L links values b (S .pool .fit) S B)
+  past-rules (k ∷ ks) (N.later h g) = past-rules ks g
 
-module _ {E : Engine} {links : E .Links} {values : List ℕ} {b : AnyBook} {s : Shape} (S : SoundBook E links values b s) where
-  pub not-one-three : {cs : List Condition} {n : ℕ} → PastThree cs → Given (checkConditions E links values b ++ cs) n → (n ≢ 1) × (n ≢ 3)
-  not-one-three = past-both (λ n. n (S .pool .fit)) (λ n. n (s, S))
+  pub not-broken : {cs : List Condition} {n : ℕ} → OwnNumbers cs → Given (checkConditions E links values b ++ cs) n → (n ≢ 1) × (n < 9)
+  not-broken p (N.this h) = absurd (h (S .pool .fit))
+  not-broken p (N.later h g) = own-number p (past-rules faultRules g)
 
 -- ---- 6, 7 and 0
 
@@ -68,9 +71,9 @@ module _ {E : Engine} (L : Lawful E) {links : E .Links} {values : List ℕ} {b :
   abbrev Tight : Shape → Type 0
   Tight t = (length (chainAt t l) < e .limit) × (e .share ≤ length (chainAt t l)) × (length (t .idle) ≤ lacks (take (b .lists) (b .entries)) (t .chains))
 
-  -- what comes after 1, 3 and 4 decides
+  -- what comes after 1, 9 to 15 and 4 decides
   own-decides : {cs : List Condition} {k : ℕ} → Given cs k → Given (listConditions E links values b l ++ cs) k
-  own-decides g = N.later (λ (n : Fit E links values → ⊥). n (S .pool .fit)) (N.later (λ (n : ((t : Shape) × SoundBook E links values b t) → ⊥). n (s, S)) (N.later (λ (h : b .lists ≤ l). omega arith) g))
+  own-decides g = N.later (λ (n : Fit E links values → ⊥). n (S .pool .fit)) (none-broken L links values b S faultRules (N.later (λ (h : b .lists ≤ l). omega arith) g))
 
   -- a fact of a sound shape is a fact of this one
   of-this : (Fact : Shape → Type 0) → OfShape E links values b Fact → Fact s

@@ -1,4 +1,4 @@
--- What the check found is said of the sound shape, over any engine, and so is what a look tells.
+-- What the check found is said of the sound shape, over any engine.
 use mathlib.Core.Path.{_≡_, refl, ap}
 use mathlib.Core.Logic.{_≢_}
 use mathlib.Core.Bool.{Bool, true, false}
@@ -59,62 +59,3 @@ module _ {E : Engine} (L : Lawful E) {links : E .Links} {values : List ℕ} {b :
 
   pub found-length : (l : ℕ) → l < b .lists → checkFound E l links values b .length ≡ length (chainAt s l)
   found-length l below = rw (kept S l) (sound-length L l links values _ (b .free) (S .pool .fit) s (S .pool) (listed S l below))
-
--- ---- what a look tells
-
-module _ {E : Engine} (L : Lawful E) (wanted : ℕ) (links : E .Links) (values : List ℕ) (b : AnyBook) where
-  abbrev rule : ℕ
-  rule = checkFound E wanted links values b .fault .rule
-
-  no : {A : Type 0} {m n : ℕ} → m ≡ n → m ≢ n → A
-  no e d = absurd (d e)
-
-  pub look-tells : Tells E wanted links values b (lookOf E wanted links values b)
-  unfolding lookOf
-  look-tells = go (sizesFit E links values) (eqb rule 0) refl refl
-    where
-      go : (x y : Bool) → sizesFit E links values ≡ x → eqb rule 0 ≡ y → Tells E wanted links values b (lookOf E wanted links values b)
-      go true true ex ey =
-          let f = fits-exactly E links values .0 ex in
-          let sound = found-exactly L wanted links values b f .0 (eqb-true _ _ ey) in
-          rw (ex, ey)
-          (record {
-            one = (λ e. no e (λ k. omega arith), λ n. absurd (n f));
-            three = (λ e. no e (λ k. omega arith), λ (g, n). absurd (n sound));
-            fine = (λ e. sound, λ S. refl);
-            nothing = λ d. absurd (d refl);
-            clean = λ e. let (s, S) = sound in found-fine L S wanted;
-            many = λ e s S below. found-length L S wanted below;
-            none = λ e h. let (s, S) = sound in found-beyond L S wanted h;
-            lacking = λ e s S. found-lacks L S wanted;
-            free = λ e s S. found-free L S wanted;
-          })
-      go true false ex ey =
-          let f = fits-exactly E links values .0 ex in
-          let unsound : ((s : Shape) × SoundBook E links values b s) → ⊥ = λ S. eqb-false _ _ ey (found-exactly L wanted links values b f .1 S) in
-          rw (ex, ey)
-          (record {
-            one = (λ e. no e (λ k. omega arith), λ n. absurd (n f));
-            three = (λ e. (f, unsound), λ g. refl);
-            fine = (λ e. no e (λ k. omega arith), λ S. absurd (unsound S));
-            nothing = λ d. refl;
-            clean = λ e. no e (λ k. omega arith);
-            many = λ e. no e (λ k. omega arith);
-            none = λ e. no e (λ k. omega arith);
-            lacking = λ e. no e (λ k. omega arith);
-            free = λ e. no e (λ k. omega arith);
-          })
-      go false y ex ey =
-          let unfit : Fit E links values → ⊥ = λ f. not-both (sizesFit E links values) (fits-exactly E links values .1 f) ex in
-          rw ex
-          (record {
-            one = (λ e. unfit, λ n. refl);
-            three = (λ e. no e (λ k. omega arith), λ (f, n). absurd (unfit f));
-            fine = (λ e. no e (λ k. omega arith), λ (s, S). absurd (unfit (S .pool .fit)));
-            nothing = λ d. refl;
-            clean = λ e. no e (λ k. omega arith);
-            many = λ e. no e (λ k. omega arith);
-            none = λ e. no e (λ k. omega arith);
-            lacking = λ e. no e (λ k. omega arith);
-            free = λ e. no e (λ k. omega arith);
-          })

@@ -226,8 +226,8 @@ module _ (E : Engine) (places : ℕ) (links : E .Links) (values : List ℕ) (lis
     where
       go : (a b : Bool) → sizesFit E links values ≡ a → keepsRules (E .size links) (freshBookOf places lists shares limits) ≡ b → Goes ⊎ Stops
       go true true ea eb = inl ((fits-exactly E links values .0 ea, keeps-rules (E .size links) _ .0 eb), rw (ea, eb))
-      go true false ea eb = inr (rw (ea, eb) (λ e. omega arith, record { noValue = refl; zeroed = refl; sameLinks = refl; sameValues = refl }))
-      go false b ea eb = inr (rw ea (λ e. omega arith, record { noValue = refl; zeroed = refl; sameLinks = refl; sameValues = refl }))
+      go true false ea eb = inr (rw (ea, eb) (λ e. omega arith, record { unplaced = refl; noValue = refl; zeroed = refl; sameLinks = refl; sameValues = refl }))
+      go false b ea eb = inr (rw ea (λ e. omega arith, record { unplaced = refl; noValue = refl; zeroed = refl; sameLinks = refl; sameValues = refl }))
 
   -- a refused setup returns the all-zero book, and no slice changes
   pub setup-refused : setupCall E places links values lists shares limits .number ≢ 0 → SetupRefused E places links values (setupCall E places links values lists shares limits)
@@ -258,6 +258,7 @@ module _ {E : Engine} (L : Lawful E) (places : ℕ) (links : E .Links) (values :
           rw (w .1)
           (record {
             number = refl;
+            unplaced = refl;
             noValue = refl;
             samePlaces = refl;
             asMany = refl;

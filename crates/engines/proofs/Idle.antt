@@ -18,10 +18,10 @@ use Rattle.shapes.specs.declared.Gathered.{Gathered}
 use Rattle.shapes.specs.Faults.{fault, noFault, lowestUnmet, spareFault, idleFault}
 use Rattle.engines.specs.Engine.{Engine}
 use Rattle.engines.specs.Laws.{Lawful}
-use Rattle.engines.specs.FirstFault.{Leads, Distinct, BadSlot}
+use Rattle.engines.specs.FirstFault.{Distinct}
 use Rattle.engines.specs.Check.{idlePath}
 use Rattle.shapes.proofs.Walks.{fresh-passes, walk-fresh, walk-only, walk-finds}
-use Rattle.engines.proofs.Leads.{Knows, walk-stands, walk-stops}
+use Rattle.engines.proofs.Leads.{Leads, BadSlot, Knows, walk-stands, walk-stops}
 
 module _ (E : Engine) (links : E .Links) (values met : List ℕ) (free : Free) where
   pub idle-fresh : Passes (E .size links) met (idlePath E links values met free .slots)

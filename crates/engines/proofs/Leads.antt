@@ -17,8 +17,21 @@ use Rattle.chains.proofs.Count.{count-append}
 use Rattle.shapes.specs.Met.{isMetOf, seen, markOf, markAll, unmet}
 use Rattle.shapes.specs.Walk.{Path, passing, walkOn, walkable, walkFrom, Tied, Passes}
 use Rattle.shapes.proofs.Seen.{seen-le, unmet-mark}
-use Rattle.engines.specs.FirstFault.{Leads, Distinct, BadSlot}
+use Rattle.engines.specs.FirstFault.{Distinct}
 use Rattle.shapes.proofs.Walks.{Fresh, fresh-passes, to-fresh, pass-on, walk-fresh, walk-finds}
+
+-- ---- slots that lead on, and what may not come after them
+
+-- from `slot`, with p before it, the slots `xs` stand at the next positions, each links on to the one after it and fits the one before it; `next` comes after them
+abbrev pub Leads : (onward : ℕ → ℕ → ℕ) (fits : ℕ → ℕ → Bool) → ℕ → ℕ → List ℕ → ℕ → Type 0
+Leads onward fits p slot [] next = slot ≡ next
+Leads onward fits p slot (x ∷ xs) next = (slot ≡ x) × (fits p x ≡ true) × Leads onward fits x (onward p x) xs next
+
+-- what may not come after p where `used` were met
+pub record BadSlot (fits : ℕ → ℕ → Bool) (size : ℕ) (used : List ℕ) (p next : ℕ) : Type 0 where
+  -- 0 is no slot: the chain ends
+  pub some : next ≢ nullSlot
+  pub bad : (size ≤ next) ⊎ (0 < count next used) ⊎ (fits p next ≡ false)
 
 -- ---- the record of slots met, and which slots it knows of
 

@@ -6,11 +6,16 @@ pub mod Gather
 pub mod Stops
 pub mod Idle
 pub mod Chains
+pub mod Standing
+pub mod Positions
 pub mod Broken
 pub mod Checked
 pub mod Found
 pub mod FirstFault
+pub mod Ruled
+pub mod Tells
 pub mod Stages
+pub mod Within
 pub mod Kept
 pub mod Steps
 pub mod Clearing
@@ -34,6 +39,7 @@ pub mod Undo
 pub mod SameHoldings
 pub mod UndoTraces
 pub mod Rows
+pub mod Named
 -- the computed cases
 pub mod Edges
 pub mod Turns

@@ -1,32 +1,36 @@
 -- The check and then the test of the list, as code takes them, and that together with the call's own tests they decide.
 use mathlib.Core.Path.{_≡_, refl, sym, ap, _∙_}
 use mathlib.Core.Logic.{_≢_}
-use mathlib.Core.Bool.{Bool, true, false, cond, _&&_}
+use mathlib.Core.Bool.{Bool, true, false, cond, not, _&&_}
 use mathlib.Core.List.{List, _++_}
 use Prim.Native.Nat.{ℕ, suc, _-_, _<_}
 use native.Mathlib.Omega.{arith}
 use lib.Dec.{leb, eqb}
 use lib.ListN.{length}
-use borrow.Author.Tests.{eqb-true, eq-eqb, ne-eqb, leb-false, lt-leb}
+use borrow.Author.Tests.{eqb-true, eqb-false, eq-eqb, ne-eqb, leb-false, lt-leb}
+use Rattle.books.specs.declared.Refusal.{Refusal}
 use Rattle.books.specs.Book.{entryAt, AnyBook}
+use Rattle.books.specs.Place.{noPlace, numbered}
+use Rattle.books.proofs.Tests.{not-both}
 use Rattle.shapes.specs.declared.End.{End}
 use Rattle.shapes.specs.declared.Looked.{Looked}
 use Rattle.shapes.specs.Shape.{Shape}
 use Rattle.shapes.specs.Ends.{nearOf}
 use Rattle.shapes.specs.Numbers.{Test, firstThat, decided}
 use Rattle.shapes.specs.Tests.{readOwnTests}
-use Rattle.shapes.specs.Faults.{refusedBy}
+use Rattle.shapes.specs.Faults.{placeFor, answering, refusedBy}
 use Rattle.shapes.proofs.Numbers.{Numbered, nil, cons, first-first, first-then, decided-refused, decided-done}
 use Rattle.engines.specs.Engine.{Engine}
 use Rattle.engines.specs.Sound.{Fit, SoundBook}
 use Rattle.engines.specs.Laws.{Lawful}
 use Rattle.engines.specs.Check.{sizesFit, checkFound, lookOf}
 use Rattle.engines.specs.Reads.{countRead}
-use Rattle.engines.specs.Calls.{checkTests, listTests, onListOf}
+use Rattle.engines.specs.Calls.{checkTests, listTests, checkCall, onListOf}
 use Rattle.engines.proofs.Checked.{fits-exactly, found-exactly}
 use Rattle.engines.proofs.Found.{found-length, shorter}
 use Rattle.engines.proofs.Reading.{reads}
 use Rattle.engines.proofs.Outcomes.{placed}
+use Rattle.engines.proofs.Ruled.{KnownFault, known-fault, not-rule, no-place}
 
 -- ---- the number that the check gives
 
@@ -41,32 +45,55 @@ module _ (E : Engine) (wanted : ℕ) (links : E .Links) (values : List ℕ) (b :
       go true false e f = rw (e, f)
       go false n e f = rw e
 
+-- number 0 sets no place
+pub look-whole : (E : Engine) (wanted : ℕ) (links : E .Links) (values : List ℕ) (b : AnyBook) → lookOf E wanted links values b .refusal .number ≡ 0 → lookOf E wanted links values b .refusal ≡ numbered 0
+unfolding lookOf
+look-whole E wanted links values b = go (sizesFit E links values) (eqb (checkFound E wanted links values b .fault .rule) 0) refl refl
+  where
+    go : (s n : Bool) → sizesFit E links values ≡ s → eqb (checkFound E wanted links values b .fault .rule) 0 ≡ n → lookOf E wanted links values b .refusal .number ≡ 0 → lookOf E wanted links values b .refusal ≡ numbered 0
+    go true true e f z = rw (e, f)
+    go true false e f z = absurd (eqb-false (checkFound E wanted links values b .fault .rule) 0 f (rw (e, f) at z))
+    go false n e f z = let k : _≡_ {A = ℕ} 1 0 = rw e at z in absurd (omega arith)
+
+-- as a call of its own it answers the same
+pub look-check : (E : Engine) (links : E .Links) (values : List ℕ) (b : AnyBook) → lookOf E 0 links values b .refusal ≡ checkCall E links values b
+unfolding lookOf checkCall decided
+look-check E links values b = go (sizesFit E links values) (eqb (checkFound E 0 links values b .fault .rule) 0) refl refl
+  where
+    go : (s n : Bool) → sizesFit E links values ≡ s → eqb (checkFound E 0 links values b .fault .rule) 0 ≡ n → lookOf E 0 links values b .refusal ≡ checkCall E links values b
+    go true true e f = rw (e, f)
+    go true false e f = rw (e, f, f, eq-eqb (checkFound E 0 links values b .fault .rule) (checkFound E 0 links values b .fault .rule) refl)
+    go false n e f = rw (e, ne-eqb (checkFound E 0 links values b .fault .rule) 1 (not-rule (known-fault E 0 links values b) 1 (λ k. omega arith) (omega arith)))
+
+pub check-whole : (E : Engine) (links : E .Links) (values : List ℕ) (b : AnyBook) → checkCall E links values b .number ≡ 0 → checkCall E links values b ≡ numbered 0
+check-whole E links values b z = sym (look-check E links values b) ∙ look-whole E 0 links values b (ap (λ (r : Refusal). r .number) (look-check E links values b) ∙ z)
+
 -- ---- the check, and then the test of the list
 
--- `seen` is what the check gave, and `early` the number after the test of the list
-module _ (E : Engine) (links : E .Links) (values : List ℕ) (b : AnyBook) (l : ℕ) (seen : Looked) (e : seen ≡ lookOf E l links values b) (early : ℕ) (n : early ≡ cond (eqb (seen .refusal .number) 0 && leb (b .lists) l) 4 (seen .refusal .number)) where
+-- `seen` is what the check gave, and `early` the answer after the test of the list
+module _ (E : Engine) (links : E .Links) (values : List ℕ) (b : AnyBook) (l : ℕ) (seen : Looked) (e : seen ≡ lookOf E l links values b) (early : Refusal) (n : early ≡ cond (eqb (seen .refusal .number) 0 && leb (b .lists) l) (numbered 4) (seen .refusal)) where
   -- together they say what `onListOf` says
-  both : cond (eqb early 0) seen (refusedBy early) ≡ onListOf E links values b l
+  both : cond (eqb (early .number) 0) seen (refusedBy early) ≡ onListOf E links values b l
   unfolding onListOf lookOf
   both = go (sizesFit E links values) (eqb (checkFound E l links values b .fault .rule) 0) (leb (b .lists) l) refl refl refl
     where
-      go : (x y z : Bool) → sizesFit E links values ≡ x → eqb (checkFound E l links values b .fault .rule) 0 ≡ y → leb (b .lists) l ≡ z → cond (eqb early 0) seen (refusedBy early) ≡ onListOf E links values b l
+      go : (x y z : Bool) → sizesFit E links values ≡ x → eqb (checkFound E l links values b .fault .rule) 0 ≡ y → leb (b .lists) l ≡ z → cond (eqb (early .number) 0) seen (refusedBy early) ≡ onListOf E links values b l
       go true true true ex ey ez = simp (n, e, ex, ey, ez)
       go true true false ex ey ez = simp (n, e, ex, ey, ez)
       go true false z ex ey ez = simp (n, e, ex, ey)
       go false y z ex ey ez = simp (n, e, ex)
 
-  pub early-stopped : early ≢ 0 → refusedBy early ≡ onListOf E links values b l
-  early-stopped d = rw (ne-eqb early 0 d) at both
+  pub early-stopped : early .number ≢ 0 → refusedBy early ≡ onListOf E links values b l
+  early-stopped d = rw (ne-eqb (early .number) 0 d) at both
 
-  pub early-passed : early ≡ 0 → (seen ≡ onListOf E links values b l) × (seen .refusal .number ≡ 0)
-  early-passed z = (rw (eq-eqb early 0 z) at both, go (eqb (seen .refusal .number) 0) refl)
+  pub early-passed : early .number ≡ 0 → (seen ≡ onListOf E links values b l) × (seen .refusal .number ≡ 0)
+  early-passed z = (rw (eq-eqb (early .number) 0 z) at both, go (eqb (seen .refusal .number) 0) refl)
     where
       go : (x : Bool) → eqb (seen .refusal .number) 0 ≡ x → seen .refusal .number ≡ 0
       go true ex = eqb-true _ _ ex
-      go false ex = sym (rw ex at n) ∙ z
+      go false ex = sym (ap (λ (r : Refusal). r .number) (rw ex at n)) ∙ z
 
--- ---- once 1, 3 and 4 do not apply
+-- ---- once 1, 9 to 15 and 4 do not apply
 
 module _ (E : Engine) (links : E .Links) (values : List ℕ) (b : AnyBook) (l : ℕ) where
   pub on-list-number : onListOf E links values b l .refusal .number ≡ firstThat (listTests E links values b l)
@@ -76,7 +103,7 @@ module _ (E : Engine) (links : E .Links) (values : List ℕ) (b : AnyBook) (l : 
       go : (x y z : Bool) → sizesFit E links values ≡ x → eqb (checkFound E l links values b .fault .rule) 0 ≡ y → leb (b .lists) l ≡ z → onListOf E links values b l .refusal .number ≡ firstThat (listTests E links values b l)
       go true true true ex ey ez = rw (ex, ey, ez)
       go true true false ex ey ez = rw (ex, ey, ez)
-      go true false z ex ey ez = rw (ex, ey)
+      go true false z ex ey ez = rw (ex, ey, ey)
       go false y z ex ey ez = rw ex
 
   pub on-list-passed : onListOf E links values b l .refusal .number ≡ 0 → Fit E links values × (checkFound E l links values b .fault .rule ≡ 0) × (l < b .lists)
@@ -86,10 +113,16 @@ module _ (E : Engine) (links : E .Links) (values : List ℕ) (b : AnyBook) (l : 
       no : (k : ℕ) → onListOf E links values b l .refusal .number ≡ k → 0 < k → ⊥
       no k e p = omega (arith, n)
 
+      rule : ℕ
+      rule = checkFound E l links values b .fault .rule
+
+      at-rule : sizesFit E links values ≡ true → eqb (checkFound E l links values b .fault .rule) 0 ≡ false → onListOf E links values b l .refusal .number ≡ checkFound E l links values b .fault .rule
+      at-rule ex ey = simp (ex, ey)
+
       go : (x y z : Bool) → sizesFit E links values ≡ x → eqb (checkFound E l links values b .fault .rule) 0 ≡ y → leb (b .lists) l ≡ z → Fit E links values × (checkFound E l links values b .fault .rule ≡ 0) × (l < b .lists)
       go true true true ex ey ez = absurd (no 4 (rw (ex, ey, ez)) (omega arith))
       go true true false ex ey ez = (fits-exactly E links values .0 ex, eqb-true _ _ ey, leb-false _ _ ez)
-      go true false z ex ey ez = absurd (no 3 (rw (ex, ey)) (omega arith))
+      go true false z ex ey ez = absurd (eqb-false rule 0 ey (sym (at-rule ex ey) ∙ n))
       go false y z ex ey ez = absurd (no 1 (rw ex) (omega arith))
 
   pub on-list-found : onListOf E links values b l .refusal .number ≡ 0 → onListOf E links values b l .found ≡ checkFound E l links values b
@@ -120,16 +153,38 @@ module _ (E : Engine) (links : E .Links) (values : List ℕ) (b : AnyBook) (l : 
       let (p, q) = placed (checkFound E l links values b .length) (length buffer) at z in
       omega (arith, reads L S l below end buffer at (omega (arith, found-length L S l below)) .counted, shorter S l below)
 
+  -- where it is refused, the place is that which goes with the number
+  pub on-list-place : onListOf E links values b l .refusal .number ≢ 0 → onListOf E links values b l .refusal ≡ answering (checkFound E l links values b .fault) (onListOf E links values b l .refusal .number)
+  unfolding onListOf lookOf
+  on-list-place = go (sizesFit E links values) (eqb (checkFound E l links values b .fault .rule) 0) (leb (b .lists) l) refl refl refl
+    where
+      known : KnownFault (checkFound E l links values b .fault)
+      known = known-fault E l links values b
+
+      go : (x y z : Bool) → sizesFit E links values ≡ x → eqb (checkFound E l links values b .fault .rule) 0 ≡ y → leb (b .lists) l ≡ z → onListOf E links values b l .refusal .number ≢ 0
+          → onListOf E links values b l .refusal ≡ answering (checkFound E l links values b .fault) (onListOf E links values b l .refusal .number)
+      go true true true ex ey ez d = rw (ex, ey, ez, ne-eqb (checkFound E l links values b .fault .rule) 4 (not-rule known 4 (λ k. omega arith) (omega arith)))
+      go true true false ex ey ez d = absurd (d (rw (ex, ey, ez)))
+      go true false z ex ey ez d = simp (ex, ey, eq-eqb (checkFound E l links values b .fault .rule) (checkFound E l links values b .fault .rule) refl)
+      go false y z ex ey ez d = rw (ex, ne-eqb (checkFound E l links values b .fault .rule) 1 (not-rule known 1 (λ k. omega arith) (omega arith)))
+
+  -- where it is not, no place goes with a number of the call's own
+  pub own-place : (number : ℕ) → number ≢ 0 → onListOf E links values b l .refusal .number ≡ 0 → placeFor (checkFound E l links values b .fault) number ≡ noPlace
+  own-place number d n = no-place (checkFound E l links values b .fault) number (λ e. d (sym e ∙ on-list-passed n .1))
+
   -- ---- what the call then gives
 
   suc-ne-zero : (n : ℕ) → suc n ≢ 0
   suc-ne-zero n e = omega arith
 
   pub list-numbered : Numbered (listTests E links values b l)
-  list-numbered = cons (suc-ne-zero 0) (cons (suc-ne-zero 2) (cons (suc-ne-zero 3) nil))
+  list-numbered = cons (λ h. suc-ne-zero 0) (cons broken (cons (λ h. suc-ne-zero 3) nil))
+    where
+      broken : not (eqb (checkFound E l links values b .fault .rule) 0) ≡ true → checkFound E l links values b .fault .rule ≢ 0
+      broken h z = not-both true refl (sym (rw z at h))
 
   module _ {A : Type 0} (us : List Test) (done : A) (refused : ℕ → A) where
-    -- 1, 3 or 4 decides
+    -- 1, 9 to 15 or 4 decides
     pub by-list : onListOf E links values b l .refusal .number ≢ 0 → decided (listTests E links values b l ++ us) done refused ≡ refused (onListOf E links values b l .refusal .number)
     by-list d =
         let e : firstThat (listTests E links values b l ++ us) ≡ onListOf E links values b l .refusal .number = first-first (listTests E links values b l) us (λ k. d (on-list-number ∙ k)) ∙ sym on-list-number in

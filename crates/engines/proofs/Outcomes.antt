@@ -1,5 +1,5 @@
 -- Each call on any engine is refused and leaves everything as it was, or is done and does what `Done` says on the sound shape.
-use mathlib.Core.Path.{_≡_, refl, sym, ap, subst}
+use mathlib.Core.Path.{_≡_, refl, sym, ap, subst, _∙_}
 use mathlib.Core.Logic.{_↔_, _≢_, _⊎_, inl, inr}
 use mathlib.Core.Bool.{Bool, true, false}
 use mathlib.Core.List.{List, [], _++_}
@@ -11,6 +11,7 @@ use borrow.Author.Tests.{eqb-true, eq-eqb, eqb-false, leb-true, leb-false, lt-lt
 use Rattle.books.specs.declared.Entry.{Entry}
 use Rattle.books.specs.Book.{entryAt, AnyBook}
 use Rattle.shapes.specs.declared.End.{End}
+use Rattle.shapes.specs.declared.Fault.{Fault}
 use Rattle.shapes.specs.Shape.{Shape, chainAt, lacks, Room}
 use Rattle.books.specs.declared.Length.{Length}
 use Rattle.shapes.specs.Numbers.{Test, firstThat, decided}
@@ -27,6 +28,7 @@ use Rattle.engines.proofs.Found.{found-length, found-lacks, found-free,
 use Rattle.engines.proofs.Steps.{pushes, pops}
 use Rattle.engines.proofs.Clearing.{clears}
 use Rattle.engines.proofs.Reading.{reads}
+use Rattle.engines.proofs.When.{check-number}
 
 -- neither 6 nor 7, of a list that is within its limit
 roomy : (e : Entry) (many lacking free : ℕ) → many ≤ e .limit → firstThat (pushOwnTests e many lacking free) ≡ 0 → (many < e .limit) × ((many < e .share) ⊎ (lacking < free))
@@ -62,8 +64,8 @@ placed many room at z = go (leb at room) (leb many (room - at)) refl refl
 
 module _ (E : Engine) (links : E .Links) (values : List ℕ) (b : AnyBook) (l : ℕ) where
   -- a call that is refused leaves everything
-  refused : (ts : List Test) (done : Called E) → done .number ≡ 0 → decided ts done (notCalled E links values b) .number ≢ 0 → Refused E links values b (decided ts done (notCalled E links values b))
-  refused ts done z = decided-ind done (notCalled E links values b) (λ (r : Called E). r .number ≢ 0 → Refused E links values b r) ts
+  refused : (ts : List Test) (done : Called E) (f : Fault) → done .number ≡ 0 → decided ts done (notCalled E links values b f) .number ≢ 0 → Refused E links values b (decided ts done (notCalled E links values b f))
+  refused ts done f z = decided-ind done (notCalled E links values b f) (λ (r : Called E). r .number ≢ 0 → Refused E links values b r) ts
       (λ k d. record { noValue = refl; sameBook = refl; sameLinks = refl; sameValues = refl })
       (λ k d. absurd (d z))
 
@@ -73,15 +75,15 @@ module _ (E : Engine) (links : E .Links) (values : List ℕ) (b : AnyBook) (l : 
 
   pub push-refused : (end : End) (value : ℕ) → pushCall E links values b l end value .number ≢ 0 → Refused E links values b (pushCall E links values b l end value)
   unfolding pushCall
-  push-refused end value = refused (pushTests E links values b l) (afterPush E links values b l end value) refl
+  push-refused end value = refused (pushTests E links values b l) (afterPush E links values b l end value) (foundOf E links values b l .fault) refl
 
   pub pop-refused : (end : End) → popCall E links values b l end .number ≢ 0 → Refused E links values b (popCall E links values b l end)
   unfolding popCall
-  pop-refused end = refused (popTests E links values b l) (afterPop E links values b l end) refl
+  pop-refused end = refused (popTests E links values b l) (afterPop E links values b l end) (foundOf E links values b l .fault) refl
 
   pub clear-refused : clearCall E links values b l .number ≢ 0 → Refused E links values b (clearCall E links values b l)
   unfolding clearCall
-  clear-refused = refused (listTests E links values b l) (afterClear E links values b l (foundOf E links values b l .length)) refl
+  clear-refused = refused (listTests E links values b l) (afterClear E links values b l (foundOf E links values b l .length)) (foundOf E links values b l .fault) refl
 
   pub read-refused : (end : End) (buffer : List ℕ) (at : ℕ) → readCall E links values b l end buffer at .answer .refusal .number ≢ 0 → ReadRefused buffer (readCall E links values b l end buffer at)
   unfolding readCall
@@ -94,7 +96,6 @@ module _ (E : Engine) (links : E .Links) (values : List ℕ) (b : AnyBook) (l : 
 
 -- demand 2: "The check accepts exactly the pools that 01 calls sound"
 pub check-accepts : {E : Engine} (L : Lawful E) (links : E .Links) (values : List ℕ) (b : AnyBook) → checkCall E links values b .number ≡ 0 ↔ ((s : Shape) × SoundBook E links values b s)
-unfolding checkCall
 check-accepts {E} L links values b = (to (sizesFit E links values) (eqb rule 0) refl refl, from)
   where
     rule : ℕ
@@ -102,11 +103,11 @@ check-accepts {E} L links values b = (to (sizesFit E links values) (eqb rule 0) 
 
     to : (x y : Bool) → sizesFit E links values ≡ x → eqb rule 0 ≡ y → checkCall E links values b .number ≡ 0 → (s : Shape) × SoundBook E links values b s
     to true true ex ey z = found-exactly L 0 links values b (fits-exactly E links values .0 ex) .0 (eqb-true _ _ ey)
-    to true false ex ey z = let k : _≡_ {A = ℕ} 3 0 = rw (ex, ey) at z in absurd (omega arith)
-    to false y ex ey z = let k : _≡_ {A = ℕ} 1 0 = rw ex at z in absurd (omega arith)
+    to true false ex ey z = absurd (eqb-false rule 0 ey (rw (ex, ey) at (sym (check-number E links values b) ∙ z)))
+    to false y ex ey z = let k : _≡_ {A = ℕ} 1 0 = rw ex at (sym (check-number E links values b) ∙ z) in absurd (omega arith)
 
     from : ((s : Shape) × SoundBook E links values b s) → checkCall E links values b .number ≡ 0
-    from (s, S) = rw (fits-exactly E links values .1 (S .pool .fit), eq-eqb _ _ (found-exactly L 0 links values b (S .pool .fit) .1 (s, S)))
+    from (s, S) = check-number E links values b ∙ rw (fits-exactly E links values .1 (S .pool .fit), eq-eqb _ _ (found-exactly L 0 links values b (S .pool .fit) .1 (s, S)))
 
 module _ {E : Engine} (L : Lawful E) (links : E .Links) (values : List ℕ) (b : AnyBook) (l : ℕ) where
   -- where no test applies there is a sound shape with the list in it, and none of the call's own tests applies
@@ -119,7 +120,7 @@ module _ {E : Engine} (L : Lawful E) (links : E .Links) (values : List ℕ) (b :
       go true true false ex ey eu =
           let (s, S) = found-exactly L l links values b (fits-exactly E links values .0 ex) .0 (eqb-true _ _ ey) in
           ((s, S, leb-false _ _ eu), rw (ex, ey, eu) at z)
-      go true false u ex ey eu = let k : _≡_ {A = ℕ} 3 0 = rw (ex, ey) at z in absurd (omega arith)
+      go true false u ex ey eu = absurd (eqb-false (checkFound E l links values b .fault .rule) 0 ey (rw (ex, ey) at z))
       go false y u ex ey eu = let k : _≡_ {A = ℕ} 1 0 = rw ex at z in absurd (omega arith)
 
   -- ---- length

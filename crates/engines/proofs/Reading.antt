@@ -92,7 +92,7 @@ module _ {E : Engine} (L : Lawful E) {links : E .Links} {values : List ℕ} {b :
 
   -- where there is room for it, the whole list is read
   pub reads : (buffer : List ℕ) (at : ℕ) → at + length (chainAt s l) ≤ length buffer → Reads end values l buffer at s (afterRead E links values b l end buffer at)
-  reads buffer at room = record { number = refl; counted = ap length all ∙ many; places = rw (all, many) }
+  reads buffer at room = record { number = refl; unplaced = refl; counted = ap length all ∙ many; places = rw (all, many) }
     where
       vs : List ℕ
       vs = fromEnd end (contents values (chainAt s l))

@@ -9,6 +9,7 @@ use lib.ListN.{length, take}
 use lib.Seq.{length-take-le}
 use Rattle.books.specs.declared.Entry.{Entry}
 use Rattle.books.specs.Book.{entryAt, AnyBook}
+use Rattle.books.specs.Table.{faultRules}
 use Rattle.shapes.specs.declared.End.{End}
 use Rattle.shapes.specs.declared.End.the-variants.{Front, Back}
 use Rattle.shapes.specs.Shape.{Shape, chainAt, lacks}
@@ -26,17 +27,17 @@ use Rattle.engines.specs.Moves.{State, numberOf, View}
 use Rattle.engines.specs.Undo.{SameHoldings}
 use Rattle.engines.proofs.Shape.{unique-book}
 use Rattle.engines.proofs.Found.{entry-is}
-use Rattle.engines.proofs.When.{length-given, push-given, pop-given, clear-given, read-given}
+use Rattle.engines.proofs.When.{none-broken, length-given, push-given, pop-given, clear-given, read-given}
 use Rattle.engines.proofs.Outcomes.{check-accepts}
 use Rattle.engines.proofs.Exactly.{push-six, push-seven, push-else, pop-five, pop-zero, read-eight, read-zero, length-zero, clear-zero}
 use Rattle.engines.proofs.After.{pushAt, popAt}
 use Rattle.engines.proofs.Upstream.{viewed}
 
 -- a list that there is not gets 4, whatever else the call asks
-unlisted : {E : Engine} {links : E .Links} {values : List ℕ} {b : AnyBook} {s : Shape} → SoundBook E links values b s → {l : ℕ} → b .lists ≤ l
+unlisted : {E : Engine} (L : Lawful E) {links : E .Links} {values : List ℕ} {b : AnyBook} {s : Shape} → SoundBook E links values b s → {l : ℕ} → b .lists ≤ l
     → {cs : List Condition} {k : ℕ} → Given (listConditions E links values b l ++ cs) k → k ≡ 4
-unlisted {E} {links} {values} {b} {s} S {l} beyond g =
-    given-only g (N.later (λ (n : Fit E links values → ⊥). n (S .pool .fit)) (N.later (λ (n : ((t : Shape) × SoundBook E links values b t) → ⊥). n (s, S)) (N.this beyond)))
+unlisted {E} L {links} {values} {b} {s} S {l} beyond g =
+    given-only g (N.later (λ (n : Fit E links values → ⊥). n (S .pool .fit)) (none-broken L links values b S faultRules (N.this beyond)))
 
 module _ {E : Engine} (L : Lawful E) {st t : State E} (H : SameHoldings E st t) where
   abbrev S : SoundBook E (st .links) (st .values) (st .book) (H .was)
@@ -91,7 +92,7 @@ module _ {E : Engine} (L : Lawful E) {st t : State E} (H : SameHoldings E st t) 
     push-number-same end value = go (decLt l (st .book .lists))
       where
         go : Dec (l < st .book .lists) → pushAt E st end l value .number ≡ pushAt E t end l value .number
-        go (no d) = unlisted S (beyond d .0) (push-given L (st .links) (st .values) (st .book) l end value) ∙ sym (unlisted T (beyond d .1) (push-given L (t .links) (t .values) (t .book) l end value))
+        go (no d) = unlisted L S (beyond d .0) (push-given L (st .links) (st .values) (st .book) l end value) ∙ sym (unlisted L T (beyond d .1) (push-given L (t .links) (t .values) (t .book) l end value))
         go (yes b) =
             six-seven (
               λ e. push-six L T l (there b) end value .1 (omega (arith, push-six L S l b end value .0 e, H .lengths l b, H .granted l b)),
@@ -107,7 +108,7 @@ module _ {E : Engine} (L : Lawful E) {st t : State E} (H : SameHoldings E st t) 
     pop-number-same end = go (decLt l (st .book .lists))
       where
         go : Dec (l < st .book .lists) → popAt E st end l .number ≡ popAt E t end l .number
-        go (no d) = unlisted S (beyond d .0) (pop-given L (st .links) (st .values) (st .book) l end) ∙ sym (unlisted T (beyond d .1) (pop-given L (t .links) (t .values) (t .book) l end))
+        go (no d) = unlisted L S (beyond d .0) (pop-given L (st .links) (st .values) (st .book) l end) ∙ sym (unlisted L T (beyond d .1) (pop-given L (t .links) (t .values) (t .book) l end))
         go (yes b) = some (decLt 0 (length (chainAt (H .was) l)))
           where
             some : Dec (0 < length (chainAt (H .was) l)) → popAt E st end l .number ≡ popAt E t end l .number
@@ -122,7 +123,7 @@ module _ {E : Engine} (L : Lawful E) {st t : State E} (H : SameHoldings E st t) 
         n = readCall E (st .links) (st .values) (st .book) l end buffer at .answer .refusal .number
 
         go : Dec (l < st .book .lists) → n ≡ readCall E (t .links) (t .values) (t .book) l end buffer at .answer .refusal .number
-        go (no d) = unlisted S (beyond d .0) (read-given L (st .links) (st .values) (st .book) l end buffer at) ∙ sym (unlisted T (beyond d .1) (read-given L (t .links) (t .values) (t .book) l end buffer at))
+        go (no d) = unlisted L S (beyond d .0) (read-given L (st .links) (st .values) (st .book) l end buffer at) ∙ sym (unlisted L T (beyond d .1) (read-given L (t .links) (t .values) (t .book) l end buffer at))
         go (yes b) = small (ℕ-discrete n 8)
           where
             -- the list is as long, so that it fits alike
@@ -142,14 +143,14 @@ module _ {E : Engine} (L : Lawful E) {st t : State E} (H : SameHoldings E st t) 
     length-number-same = go (decLt l (st .book .lists))
       where
         go : Dec (l < st .book .lists) → numberOf E st (askLength l) ≡ numberOf E t (askLength l)
-        go (no d) = unlisted S (beyond d .0) (length-given L (st .links) (st .values) (st .book) l) ∙ sym (unlisted T (beyond d .1) (length-given L (t .links) (t .values) (t .book) l))
+        go (no d) = unlisted L S (beyond d .0) (length-given L (st .links) (st .values) (st .book) l) ∙ sym (unlisted L T (beyond d .1) (length-given L (t .links) (t .values) (t .book) l))
         go (yes b) = length-zero L S l b ∙ sym (length-zero L T l (there b))
 
     clear-number-same : numberOf E st (clear l) ≡ numberOf E t (clear l)
     clear-number-same = go (decLt l (st .book .lists))
       where
         go : Dec (l < st .book .lists) → numberOf E st (clear l) ≡ numberOf E t (clear l)
-        go (no d) = unlisted S (beyond d .0) (clear-given L (st .links) (st .values) (st .book) l) ∙ sym (unlisted T (beyond d .1) (clear-given L (t .links) (t .values) (t .book) l))
+        go (no d) = unlisted L S (beyond d .0) (clear-given L (st .links) (st .values) (st .book) l) ∙ sym (unlisted L T (beyond d .1) (clear-given L (t .links) (t .values) (t .book) l))
         go (yes b) = clear-zero L S l b ∙ sym (clear-zero L T l (there b))
 
   pub same-numbers : (m : Move) → numberOf E st m ≡ numberOf E t m

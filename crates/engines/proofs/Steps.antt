@@ -139,6 +139,7 @@ module _ {E : Engine} (L : Lawful E) {links : E .Links} {values : List ℕ} {b :
           record {
             listed = below;
             number = refl;
+            unplaced = refl;
             noValue = refl;
             slot = f;
             rest = fs;
@@ -191,6 +192,7 @@ module _ {E : Engine} (L : Lawful E) {links : E .Links} {values : List ℕ} {b :
           record {
             listed = below;
             number = refl;
+            unplaced = refl;
             slot = x;
             rest = xs;
             last = at;

@@ -23,17 +23,17 @@ use Rattle.shapes.specs.Faults.{fault, gatherOne, Round}
 use Rattle.engines.specs.Engine.{Engine}
 use Rattle.engines.specs.Sound.{EntryHolds}
 use Rattle.engines.specs.Laws.{Lawful}
-use Rattle.engines.specs.FirstFault.{Leads, Distinct, BadSlot, Chained}
+use Rattle.engines.specs.FirstFault.{Distinct, Chained}
 use Rattle.engines.specs.Check.{livePath, endsWell, gatherAll}
 use Rattle.shapes.proofs.Walks.{walkable-passed}
-use Rattle.engines.proofs.Leads.{Knows, passes-known, distinct-room, distinct-inside, passes-distinct, distinct-part, walk-stands, walk-stops, walk-arrives}
+use Rattle.engines.proofs.Leads.{Leads, BadSlot, Knows, passes-known, distinct-room, distinct-inside, passes-distinct, distinct-part, walk-stands, walk-stops, walk-arrives}
 use Rattle.engines.proofs.Gather.{no-chains, chained-more, chained-less, live-fresh, live-only, live-finds, no-lists, gather-goes, gather-stops}
 
 regroup : (taken c : List ℕ) (cs : List (List ℕ)) (xs : List ℕ) → (taken ++ c) ++ (joinedUp cs ++ xs) ≡ taken ++ ((c ++ joinedUp cs) ++ xs)
 regroup taken c cs xs = simp append-assoc
 
 module _ (E : Engine) (links : E .Links) where
-  -- as `LiveBroken`, where the slots `taken` were met before the first of these lists
+  -- the first l of these lists have their sequences; from the head of list l the slots lead to one that may not come, or to an end that is not the tail. The slots `taken` were met before the first list
   pub record Halts (taken : List ℕ) (es : List Entry) (l : ℕ) (chains : List (List ℕ)) (slots : List ℕ) (next : ℕ) : Type 0 where
     pub below : l < length es
     pub chained : Chained E links (take l es) chains

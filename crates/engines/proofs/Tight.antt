@@ -1,4 +1,4 @@
--- The records of `Done` leave no choice: two results that both meet a record are the same. A refusal's number is what `Given` says.
+-- The records of `Done` leave no choice: two results that both meet a record are the same. A refusal's number is what `Given` says, and its place what `Breaks` says.
 use mathlib.Core.Path.{_≡_, sym, ap, subst, _∙_}
 use mathlib.Core.Logic.{_⊎_, inl, inr}
 use mathlib.Core.List.{List, _∷_}
@@ -8,6 +8,7 @@ use native.Mathlib.Nat.{eq-zero-or-pos}
 use native.Mathlib.Decide.{decLt}
 use lib.ListN.{length, set}
 use lib.Seq.{ext-getD}
+use Rattle.books.specs.Place.{refusalOf}
 use Rattle.books.specs.Book.{wipeWord, zeroEntry, entryAt, AnyBook}
 use Rattle.chains.specs.Chain.{cell}
 use Rattle.shapes.specs.Setup.{freshShape}
@@ -26,20 +27,20 @@ use Rattle.engines.proofs.Clearing.{emptied-unique}
 use Rattle.engines.proofs.Book.{entry-one, book-one, others-between, state-one}
 use Rattle.engines.proofs.Fresh.{fresh-counted}
 
--- the number, the value and the state are all that a call leaves
-same-called : {E : Engine} {r r′ : Called E} → r .number ≡ r′ .number → r .value ≡ r′ .value → left r ≡ left r′ → r ≡ r′
-same-called {E} n v st = λ i. record { number = n i; value = v i; book = st i .book; links = st i .links; values = st i .values }
+-- the number, its place, the value and the state are all that a call leaves
+same-called : {E : Engine} {r r′ : Called E} → r .number ≡ r′ .number → r .place ≡ r′ .place → r .value ≡ r′ .value → left r ≡ left r′ → r ≡ r′
+same-called {E} n p v st = λ i. record { number = n i; place = p i; value = v i; book = st i .book; links = st i .links; values = st i .values }
 
 pub setup-refused-one : {E : Engine} {places : ℕ} {links : E .Links} {values : List ℕ} {r r′ : Called E} → SetupRefused E places links values r → SetupRefused E places links values r′
     → r .number ≡ r′ .number → r ≡ r′
 setup-refused-one P Q n =
-    same-called n (P .noValue ∙ sym (Q .noValue))
+    same-called n (P .unplaced ∙ sym (Q .unplaced)) (P .noValue ∙ sym (Q .noValue))
     (λ i. record { links = (P .sameLinks ∙ sym (Q .sameLinks)) i; values = (P .sameValues ∙ sym (Q .sameValues)) i; book = (P .zeroed ∙ sym (Q .zeroed)) i })
 
 pub setup-keeps-one : {E : Engine} (L : Lawful E) {places : ℕ} {links : E .Links} {lists : ℕ} {shares limits : List ℕ} {r r′ : Called E}
     → SetupKeeps E places links lists shares limits r → SetupKeeps E places links lists shares limits r′ → r ≡ r′
 setup-keeps-one {E} L {places} {links} {lists} {shares} {limits} {r} {r′} P Q =
-    λ i. record { number = (P .number ∙ sym (Q .number)) i; value = (P .noValue ∙ sym (Q .noValue)) i; book = book i; links = cells i; values = values i }
+    λ i. record { number = (P .number ∙ sym (Q .number)) i; place = (P .unplaced ∙ sym (Q .unplaced)) i; value = (P .noValue ∙ sym (Q .noValue)) i; book = book i; links = cells i; values = values i }
   where
     size : E .size (r .links) ≡ E .size (r′ .links)
     size = P .sameSize ∙ sym (Q .sameSize)
@@ -73,16 +74,16 @@ setup-keeps-one {E} L {places} {links} {lists} {shares} {limits} {r} {r′} P Q 
     book = λ i. record { places = (P .samePlaces ∙ sym (Q .samePlaces)) i; lists = (P .asMany ∙ sym (Q .asMany)) i; entries = entries i; free = record { head = (P .freeHead ∙ sym (Q .freeHead)) i } }
 
 module _ {E : Engine} {links : E .Links} {values : List ℕ} {b : AnyBook} {r r′ : Called E} where
-  pub refused-one : Refused E links values b r → Refused E links values b r′ → r .number ≡ r′ .number → r ≡ r′
-  refused-one P Q n =
-      same-called n (P .noValue ∙ sym (Q .noValue))
+  pub refused-one : Refused E links values b r → Refused E links values b r′ → r .number ≡ r′ .number → r .place ≡ r′ .place → r ≡ r′
+  refused-one P Q n p =
+      same-called n p (P .noValue ∙ sym (Q .noValue))
       (λ i. record { links = (P .sameLinks ∙ sym (Q .sameLinks)) i; values = (P .sameValues ∙ sym (Q .sameValues)) i; book = (P .sameBook ∙ sym (Q .sameBook)) i })
 
   module _ {l : ℕ} {s : Shape} where
     pub clears-one : Clears E links values b l s r → Clears E links values b l s r′ → r ≡ r′
     clears-one P Q =
         let same = emptied-unique (P .emptied) (Q .emptied) in
-        same-called (P .number ∙ sym (Q .number)) (P .noValue ∙ sym (Q .noValue))
+        same-called (P .number ∙ sym (Q .number)) (P .unplaced ∙ sym (Q .unplaced)) (P .noValue ∙ sym (Q .noValue))
         (λ i. record {
           links = same i .links;
           values = same i .values;
@@ -92,7 +93,7 @@ module _ {E : Engine} {links : E .Links} {values : List ℕ} {b : AnyBook} {r r�
     module _ (L : Lawful E) {end : End} where
       pub pushes-one : {value : ℕ} → Pushes E links values b end l value s r → Pushes E links values b end l value s r′ → r ≡ r′
       pushes-one {value} P Q =
-          same-called (P .number ∙ sym (Q .number)) (P .noValue ∙ sym (Q .noValue))
+          same-called (P .number ∙ sym (Q .number)) (P .unplaced ∙ sym (Q .unplaced)) (P .noValue ∙ sym (Q .noValue))
           (state-one L {st = left r′} {t = left r} l (omega (arith, Q .listed, Q .book .sameCount)) (Q .sound) there (P .cells ∙ ap (λ x. set values x value) slot ∙ sym (Q .cells)) (others-between (Q .book) (P .book)))
         where
           both : P .slot ∷ P .rest ≡ Q .slot ∷ Q .rest
@@ -109,7 +110,7 @@ module _ {E : Engine} {links : E .Links} {values : List ℕ} {b : AnyBook} {r r�
 
       pub pops-one : Pops E links values b end l s r → Pops E links values b end l s r′ → r ≡ r′
       pops-one P Q =
-          same-called (P .number ∙ sym (Q .number)) handed
+          same-called (P .number ∙ sym (Q .number)) (P .unplaced ∙ sym (Q .unplaced)) handed
           (state-one L {st = left r′} {t = left r} l (omega (arith, Q .listed, Q .book .sameCount)) (Q .sound) there (P .cells ∙ ap (λ x. set values x wipeWord) (same .0) ∙ sym (Q .cells)) (others-between (Q .book) (P .book)))
         where
           same : (P .slot ≡ Q .slot) × (P .rest ≡ Q .rest)
@@ -122,7 +123,7 @@ module _ {E : Engine} {links : E .Links} {values : List ℕ} {b : AnyBook} {r r�
           there = subst (λ (t : Shape). SoundBook E (r .links) (r .values) (r .book) t) (λ i. put s l (same .1 i) (same .0 i ∷ s .idle)) (P .sound)
 
 pub reads-one : {end : End} {values : List ℕ} {l : ℕ} {buffer : List ℕ} {at : ℕ} {s : Shape} {r r′ : ReadLeft} → Reads end values l buffer at s r → Reads end values l buffer at s r′ → r ≡ r′
-reads-one P Q = λ i. readLeft (readOf ((P .number ∙ sym (Q .number)) i) ((P .counted ∙ sym (Q .counted)) i)) ((P .places ∙ sym (Q .places)) i)
+reads-one P Q = λ i. readLeft (readOf (refusalOf ((P .number ∙ sym (Q .number)) i) ((P .unplaced ∙ sym (Q .unplaced)) i)) ((P .counted ∙ sym (Q .counted)) i)) ((P .places ∙ sym (Q .places)) i)
 
-pub read-refused-one : {buffer : List ℕ} {r r′ : ReadLeft} → ReadRefused buffer r → ReadRefused buffer r′ → r .answer .refusal .number ≡ r′ .answer .refusal .number → r ≡ r′
+pub read-refused-one : {buffer : List ℕ} {r r′ : ReadLeft} → ReadRefused buffer r → ReadRefused buffer r′ → r .answer .refusal ≡ r′ .answer .refusal → r ≡ r′
 read-refused-one P Q n = λ i. readLeft (readOf (n i) ((P .noCount ∙ sym (Q .noCount)) i)) ((P .sameBuffer ∙ sym (Q .sameBuffer)) i)

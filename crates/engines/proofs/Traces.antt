@@ -35,7 +35,7 @@ use Rattle.engines.proofs.Found.{listed, entry-is, within}
 use Rattle.engines.proofs.Fresh.{setup-keeps}
 use Rattle.engines.proofs.When.{check-given, length-given, push-given, pop-given, clear-given, read-given}
 use Rattle.engines.proofs.Outcomes.{push-done, pop-done, clear-done}
-use Rattle.engines.proofs.Exactly.{not-one-three, push-six, push-seven, push-zero}
+use Rattle.engines.proofs.Exactly.{not-broken, push-six, push-seven, push-zero}
 use Rattle.engines.proofs.After.{pushAt, popAt, refused-state}
 
 -- ---- what the lists lack
@@ -182,16 +182,16 @@ module _ {E : Engine} (L : Lawful E) (places lists : ℕ) (shares limits : List 
     abbrev S : SoundBook E (st .links) (st .values) (st .book) s
     S = K .sound
 
-    unsaid : (m : Move) → (numberOf E st m ≢ 1) × (numberOf E st m ≢ 3)
-    unsaid check = not-one-three S tt (check-given L (st .links) (st .values) (st .book))
-    unsaid (askLength l) = not-one-three S (omega arith) (length-given L (st .links) (st .values) (st .book) l)
-    unsaid (pushBack l value) = not-one-three S (omega arith) (push-given L (st .links) (st .values) (st .book) l Back value)
-    unsaid (pushFront l value) = not-one-three S (omega arith) (push-given L (st .links) (st .values) (st .book) l Front value)
-    unsaid (popBack l) = not-one-three S (omega arith) (pop-given L (st .links) (st .values) (st .book) l Back)
-    unsaid (popFront l) = not-one-three S (omega arith) (pop-given L (st .links) (st .values) (st .book) l Front)
-    unsaid (readForward l buffer at) = not-one-three S (omega arith) (read-given L (st .links) (st .values) (st .book) l Front buffer at)
-    unsaid (readBackward l buffer at) = not-one-three S (omega arith) (read-given L (st .links) (st .values) (st .book) l Back buffer at)
-    unsaid (clear l) = not-one-three S (omega arith) (clear-given L (st .links) (st .values) (st .book) l)
+    unsaid : (m : Move) → (numberOf E st m ≢ 1) × (numberOf E st m < 9)
+    unsaid check = not-broken L S tt (check-given L (st .links) (st .values) (st .book))
+    unsaid (askLength l) = not-broken L S (omega arith) (length-given L (st .links) (st .values) (st .book) l)
+    unsaid (pushBack l value) = not-broken L S (omega arith) (push-given L (st .links) (st .values) (st .book) l Back value)
+    unsaid (pushFront l value) = not-broken L S (omega arith) (push-given L (st .links) (st .values) (st .book) l Front value)
+    unsaid (popBack l) = not-broken L S (omega arith) (pop-given L (st .links) (st .values) (st .book) l Back)
+    unsaid (popFront l) = not-broken L S (omega arith) (pop-given L (st .links) (st .values) (st .book) l Front)
+    unsaid (readForward l buffer at) = not-broken L S (omega arith) (read-given L (st .links) (st .values) (st .book) l Front buffer at)
+    unsaid (readBackward l buffer at) = not-broken L S (omega arith) (read-given L (st .links) (st .values) (st .book) l Back buffer at)
+    unsaid (clear l) = not-broken L S (omega arith) (clear-given L (st .links) (st .values) (st .book) l)
 
     module _ (l value : ℕ) (h : l < lists) where
       abbrev many : ℕ
@@ -241,7 +241,7 @@ module _ {E : Engine} (L : Lawful E) (places lists : ℕ) (shares limits : List 
           served = λ l value h k. (served-at l value h Back k, served-at l value h Front k);
           six = λ l value h. (six-at l value h Back, six-at l value h Front);
           seven = λ l value h. (seven-at l value h Back, seven-at l value h Front);
-          never = unsaid;
+          never = λ m. (unsaid m .0, λ k h j e. omega (arith, unsaid m .1));
         }
 
 -- demand 3, at any point of any trace

@@ -6,6 +6,7 @@ use native.Mathlib.Omega.{arith}
 use lib.ListN.{length, set}
 use lib.Seq.{getD-set-same, set-getD}
 use Rattle.books.specs.Book.{wipeWord}
+use Rattle.books.specs.Place.{noPlace}
 use Rattle.chains.specs.Chain.{cell}
 use Rattle.shapes.specs.declared.End.{End}
 use Rattle.shapes.specs.Ends.{joined, contents}
@@ -40,6 +41,7 @@ pub undone-one : {E : Engine} {st : State E} {value : ℕ} {r r′ : Called E} �
 undone-one U W =
     λ i. record {
       number = (U .number ∙ sym (W .number)) i;
+      place = (U .unplaced ∙ sym (W .unplaced)) i;
       value = (U .handed ∙ sym (W .handed)) i;
       book = (U .sameBook ∙ sym (W .sameBook)) i;
       links = (U .sameLinks ∙ sym (W .sameLinks)) i;
@@ -63,11 +65,11 @@ module _ {E : Engine} {st : State E} {value : ℕ} {r : Called E} (U : Undone E 
 
 module _ {E : Engine} (L : Lawful E) where
   -- two sound states of one shape, with the same values and the rest of the book the same, are one
-  same-left : {st : State E} {value : ℕ} {r : Called E} {s : Shape} (l : ℕ) → l < st .book .lists → r .number ≡ 0 → r .value ≡ value
+  same-left : {st : State E} {value : ℕ} {r : Called E} {s : Shape} (l : ℕ) → l < st .book .lists → r .number ≡ 0 → r .place ≡ noPlace → r .value ≡ value
       → SoundBook E (st .links) (st .values) (st .book) s → SoundBook E (r .links) (r .values) (r .book) s → r .values ≡ st .values → OtherEntries (st .book) l (r .book) → Undone E st value r
-  same-left {st} {value} {r} l below z v S T same O =
+  same-left {st} {value} {r} l below z u v S T same O =
       let e : left r ≡ st = state-one L {st = st} {t = left r} l below S T same O in
-      record { number = z; handed = v; sameLinks = ap (λ (x : State E). x .links) e; sameValues = same; sameBook = ap (λ (x : State E). x .book) e }
+      record { number = z; unplaced = u; handed = v; sameLinks = ap (λ (x : State E). x .links) e; sameValues = same; sameBook = ap (λ (x : State E). x .book) e }
 
   module _ (st : State E) (l : ℕ) (end : End) where
     -- ---- a push taken straight back
@@ -81,7 +83,7 @@ module _ {E : Engine} (L : Lawful E) where
       push-undone z = let (s, S, P) = push-done L (st .links) (st .values) (st .book) l end value z in go s S P
         where
           go : (s : Shape) → SoundBook E (st .links) (st .values) (st .book) s → Pushes E (st .links) (st .values) (st .book) end l value s (pushAt E st end l value) → Undone E st value (popAt E pressed end l)
-          go s S P = same-left l (P .listed) (Q .number) given S there (Q .cells ∙ (λ i. set (P .cells i) (same .0 i) wipeWord) ∙ cell-back (st .values) (P .slot) value was) (others-twice (P .book) (Q .book))
+          go s S P = same-left l (P .listed) (Q .number) (Q .unplaced) given S there (Q .cells ∙ (λ i. set (P .cells i) (same .0 i) wipeWord) ∙ cell-back (st .values) (P .slot) value was) (others-twice (P .book) (Q .book))
             where
               xs : List ℕ
               xs = joined end (P .slot) (chainAt s l)
@@ -122,7 +124,7 @@ module _ {E : Engine} (L : Lawful E) where
     pop-undone z = let (s, S, Q) = pop-done L (st .links) (st .values) (st .book) l end z in go s S Q
       where
         go : (s : Shape) → SoundBook E (st .links) (st .values) (st .book) s → Pops E (st .links) (st .values) (st .book) end l s (popAt E st end l) → Undone E st 0 (pushAt E lifted end l taken)
-        go s S Q = same-left l (Q .listed) (P .number) (P .noValue) S there (P .cells ∙ (λ i. set (Q .cells i) (same i) taken) ∙ cell-back (st .values) (Q .slot) wipeWord was) (others-twice (Q .book) (P .book))
+        go s S Q = same-left l (Q .listed) (P .number) (P .unplaced) (P .noValue) S there (P .cells ∙ (λ i. set (Q .cells i) (same i) taken) ∙ cell-back (st .values) (Q .slot) wipeWord was) (others-twice (Q .book) (P .book))
           where
             t : Shape
             t = put s l (Q .rest) (Q .slot ∷ s .idle)

@@ -1,36 +1,40 @@
 -- When each number is given, on any engine: for each of the nine calls, the number is the first whose condition in 01 holds, said of the sound shape.
 use mathlib.Core.Path.{_≡_, refl, sym, ap, subst, _∙_}
-use mathlib.Core.Logic.{_↔_, _⊎_, inl, inr}
+use mathlib.Core.Logic.{_↔_, _≢_, _⊎_, inl, inr}
 use mathlib.Core.Bool.{Bool, true, false, not, _&&_}
 use mathlib.Core.List.{List, [], _∷_, _++_}
 use Prim.Native.Nat.{ℕ, _+_, _-_, _≤_, _<_}
+use native.Mathlib.Decide.{ℕ-discrete}
 use native.Mathlib.Omega.{arith}
 use lib.Dec.{leb, ltb, eqb}
 use lib.ListN.{length, take}
-use borrow.Author.Tests.{eqb-true, eq-eqb, leb-true, leb-false, le-leb, lt-leb, ltb-true, lt-ltb}
+use borrow.Author.Tests.{eqb-true, eq-eqb, ne-eqb, leb-true, leb-false, le-leb, lt-leb, ltb-true, lt-ltb}
 use Rattle.books.specs.declared.Entry.{Entry}
+use Rattle.books.specs.declared.Refusal.{Refusal}
 use Rattle.books.specs.Book.{entryAt, AnyBook}
+use Rattle.books.specs.Table.{faultRules, among}
 use Rattle.books.proofs.Tests.{and-both, both-and, not-both}
 use Rattle.shapes.specs.declared.End.{End}
+use Rattle.shapes.specs.declared.Fault.{Fault}
+use Rattle.shapes.specs.Faults.{fault, noFault}
 use Rattle.shapes.specs.Shape.{Shape, chainAt, lacks}
 use Rattle.books.specs.declared.Length.{Length}
-use Rattle.shapes.specs.Numbers.{Test, test, firstThat, Condition, condition, numbersOf, Given}
+use Rattle.shapes.specs.Numbers.{Test, firstThat, Condition, numbersOf, Given}
 use Rattle.shapes.specs.Tests.{ReadLeft}
-use Rattle.shapes.proofs.Numbers.{Matches, given, refuted, decided-number}
+use Rattle.shapes.proofs.Numbers.{Matches, given, decided-number}
 use Rattle.shapes.proofs.Numbers as N
+use Rattle.shapes.specs.Numbers as G
 use Rattle.engines.specs.Engine.{Engine}
 use Rattle.engines.specs.Sound.{Fit, SoundBook}
 use Rattle.engines.specs.Laws.{Lawful}
+use Rattle.engines.specs.FirstFault.{Breaks}
 use Rattle.engines.specs.Check.{sizesFit, checkFound}
-use Rattle.engines.specs.Conditions.{setupConditions, OfShape, checkConditions, listConditions, pushConditions, popConditions, readConditions}
+use Rattle.engines.specs.Conditions.{setupConditions, OfShape, FirstBroken, rulesBroken, checkConditions, listConditions, pushConditions, popConditions, readConditions}
 use Rattle.engines.specs.Calls.{Called, checkTests, foundOf, listTests, pushTests, popTests, readTests, checkCall, lengthCall, pushCall, popCall, clearCall, readCall}
-use Rattle.engines.proofs.Checked.{fits-exactly, found-exactly}
+use Rattle.engines.proofs.Checked.{fits-exactly}
 use Rattle.engines.proofs.Found.{found-length, found-lacks, found-free}
-
--- a refusing test that does not apply
-passed : (b : Bool) → not b ≡ false → b ≡ true
-passed true e = refl
-passed false e = sym e
+use Rattle.engines.proofs.FirstFault.{breaks-rule, first-fault, only-fault, sound-unbroken}
+use Rattle.engines.proofs.Ruled.{rule-among, known-fault}
 
 no-slots : (xs : List ℕ) → length xs ≡ 0 → xs ≡ []
 no-slots [] e = refl
@@ -40,7 +44,7 @@ no-slots (x ∷ xs) e = absurd (omega arith)
 
 pub check-number : (E : Engine) (links : E .Links) (values : List ℕ) (b : AnyBook) → checkCall E links values b .number ≡ firstThat (checkTests E links values b 0)
 unfolding checkCall
-check-number E links values b = refl
+check-number E links values b = decided-number _ _ (λ (r : Refusal). r .number) (λ n. refl) refl (checkTests E links values b 0)
 
 module _ (E : Engine) (links : E .Links) (values : List ℕ) (b : AnyBook) (l : ℕ) where
   pub length-number : lengthCall E links values b l .refusal .number ≡ firstThat (listTests E links values b l)
@@ -66,36 +70,59 @@ module _ (E : Engine) (links : E .Links) (values : List ℕ) (b : AnyBook) (l : 
 -- ---- the tests are the conditions, and so the number is the first whose condition holds
 
 module _ {E : Engine} (L : Lawful E) (links : E .Links) (values : List ℕ) (b : AnyBook) where
-  -- 1 and 3; what comes after them may rest on a sound shape
-  check-matches : (wanted : ℕ) {us : List Test} {cs : List Condition} → ((s : Shape) → SoundBook E links values b s → Matches us cs)
-      → Matches (checkTests E links values b wanted ++ us) (checkConditions E links values b ++ cs)
-  check-matches wanted {us} {cs} more =
-      N.one refl (refuted (sizesFit E links values) (fits-exactly E links values)) (λ e. sized (fits-exactly E links values .0 (passed _ e)))
+  -- the rule that is first broken is given, whatever comes after
+  rule-given : Fit E links values → {f : Fault} → Breaks E links values b f → (cs : List Condition) (ks : List ℕ) → among (f .rule) ks ≡ true → Given (rulesBroken E links values b ks ++ cs) (f .rule)
+  rule-given fit B cs [] h = absurd (not-both true refl (sym h))
+  rule-given fit {f} B cs (k ∷ ks) h = go (ℕ-discrete k (f .rule)) (λ i. rule-given fit B cs ks i)
     where
-      sized : Fit E links values → Matches (test 3 (not (eqb (checkFound E wanted links values b .fault .rule) 0)) ∷ us) (condition 3 (((s : Shape) × SoundBook E links values b s) → ⊥) ∷ cs)
-      sized f =
-          N.one refl (refuted (eqb (checkFound E wanted links values b .fault .rule) 0) (λ e. exactly .0 (eqb-true _ _ e), λ S. eq-eqb _ _ (exactly .1 S)))
-          (λ e. let (s, S) = exactly .0 (eqb-true _ _ (passed _ e)) in more s S)
-        where
-          exactly : checkFound E wanted links values b .fault .rule ≡ 0 ↔ ((s : Shape) × SoundBook E links values b s)
-          exactly = found-exactly L wanted links values b f
+      other : k ≢ f .rule → FirstBroken E links values b k → ⊥
+      other d (l, p, C) = d (ap (λ (g : Fault). g .rule) (only-fault L links values b fit C B))
+
+      go : Dec (k ≡ f .rule) → (among (f .rule) ks ≡ true → Given (rulesBroken E links values b ks ++ cs) (f .rule)) → Given (rulesBroken E links values b (k ∷ ks) ++ cs) (f .rule)
+      go (yes e) more = subst (Given (rulesBroken E links values b (k ∷ ks) ++ cs)) e (G.this (f .list, f .place, subst (λ n. Breaks E links values b (fault n (f .list) (f .place))) (sym e) B))
+      go (no d) more = G.later (other d) (more (rw (ne-eqb (f .rule) k (λ e. d (sym e))) at h))
+
+  -- in a sound pool none is broken, and what comes after decides
+  pub none-broken : {s : Shape} → SoundBook E links values b s → (ks : List ℕ) {cs : List Condition} {n : ℕ} → Given cs n → Given (rulesBroken E links values b ks ++ cs) n
+  none-broken S [] g = g
+  none-broken S (k ∷ ks) g = G.later whole (none-broken S ks g)
+    where
+      whole : FirstBroken E links values b k → ⊥
+      whole (l, p, B) = sound-unbroken L links values b (S .pool .fit) S B
+
+  -- 1, and 9 to 15; what comes after them may rest on a sound shape
+  check-gives : (wanted : ℕ) {us : List Test} {cs : List Condition} → ((s : Shape) → SoundBook E links values b s → Matches us cs)
+      → Given (checkConditions E links values b ++ cs) (firstThat (checkTests E links values b wanted ++ us))
+  check-gives wanted {us} {cs} more = go (sizesFit E links values) refl
+    where
+      sized : sizesFit E links values ≡ true → (fit : Fit E links values)
+          → ((checkFound E wanted links values b .fault ≡ noFault) × ((s : Shape) × SoundBook E links values b s)) ⊎ Breaks E links values b (checkFound E wanted links values b .fault)
+          → Given (checkConditions E links values b ++ cs) (firstThat (checkTests E links values b wanted ++ us))
+      sized e fit (inl (z, (s, S))) = rw (e, z) (G.later (λ (n : Fit E links values → ⊥). n fit) (none-broken S faultRules (given (more s S))))
+      sized e fit (inr B) =
+          let d : checkFound E wanted links values b .fault .rule ≢ 0 = breaks-rule B in
+          rw (e, ne-eqb (checkFound E wanted links values b .fault .rule) 0 d) (G.later (λ (n : Fit E links values → ⊥). n fit) (rule-given fit B cs faultRules (rule-among (known-fault E wanted links values b) d)))
+
+      go : (x : Bool) → sizesFit E links values ≡ x → Given (checkConditions E links values b ++ cs) (firstThat (checkTests E links values b wanted ++ us))
+      go true e = let fit = fits-exactly E links values .0 e in sized e fit (first-fault L links values b fit wanted)
+      go false e = let unfit : Fit E links values → ⊥ = λ f. not-both (sizesFit E links values) (fits-exactly E links values .1 f) e in rw e (G.this unfit)
 
   pub check-given : Given (checkConditions E links values b) (checkCall E links values b .number)
-  check-given = subst (Given (checkConditions E links values b)) (sym (check-number E links values b)) (given (check-matches 0 (λ s S. N.none)))
+  check-given = subst (Given (checkConditions E links values b)) (sym (check-number E links values b)) (check-gives 0 (λ s S. N.none))
 
   module _ (l : ℕ) where
-    -- 1, 3 and 4; what comes after them may rest on a sound shape with the list in it
-    list-matches : {us : List Test} {cs : List Condition} → ((s : Shape) → SoundBook E links values b s → l < b .lists → Matches us cs)
-        → Matches (listTests E links values b l ++ us) (listConditions E links values b l ++ cs)
-    list-matches more = check-matches l (λ s S. N.one refl (leb-true _ _, le-leb _ _) (λ e. more s S (leb-false _ _ e)))
+    -- 1, 9 to 15 and 4; what comes after them may rest on a sound shape with the list in it
+    list-gives : {us : List Test} {cs : List Condition} → ((s : Shape) → SoundBook E links values b s → l < b .lists → Matches us cs)
+        → Given (listConditions E links values b l ++ cs) (firstThat (listTests E links values b l ++ us))
+    list-gives more = check-gives l (λ s S. N.one refl (leb-true _ _, le-leb _ _) (λ e. more s S (leb-false _ _ e)))
 
     -- a test of what was found is a fact of the sound shape
     of-found : (s : Shape) → SoundBook E links values b s → {test : Bool} {Fact : Shape → Type 0} → ((t : Shape) → SoundBook E links values b t → test ≡ true ↔ Fact t) → test ≡ true ↔ OfShape E links values b Fact
     of-found s S i = (λ e. (s, S, i s S .0 e), λ (t, T, f). i t T .1 f)
 
-    push-matches : Matches (pushTests E links values b l) (pushConditions E links values b l)
-    push-matches =
-        list-matches (λ s S below.
+    push-gives : Given (pushConditions E links values b l) (firstThat (pushTests E links values b l))
+    push-gives =
+        list-gives (λ s S below.
         N.one refl (of-found s S (λ t T. at-limit t T below)) (λ e.
         N.one refl (of-found s S (λ t T. no-room t T below)) (λ f. N.none)))
       where
@@ -125,14 +152,14 @@ module _ {E : Engine} (L : Lawful E) (links : E .Links) (values : List ℕ) (b :
               (both-and _ _ (le-leb (e .share) many (omega (arith, found-length L T l below))) (le-leb free lacking (omega (arith, found-free L T l, found-lacks L T l)))),
         )
 
-    pop-matches : Matches (popTests E links values b l) (popConditions E links values b l)
-    pop-matches = list-matches (λ s S below. N.one refl (of-found s S (λ t T. is-empty t T below)) (λ e. N.none))
+    pop-gives : Given (popConditions E links values b l) (firstThat (popTests E links values b l))
+    pop-gives = list-gives (λ s S below. N.one refl (of-found s S (λ t T. is-empty t T below)) (λ e. N.none))
       where
         is-empty : (t : Shape) → SoundBook E links values b t → l < b .lists → eqb (foundOf E links values b l .length) 0 ≡ true ↔ (chainAt t l ≡ [])
         is-empty t T below = (λ h. no-slots (chainAt t l) (sym (found-length L T l below) ∙ eqb-true _ _ h), λ h. eq-eqb _ _ (found-length L T l below ∙ ap length h))
 
-    read-matches : (room at : ℕ) → Matches (readTests E links values b l room at) (readConditions E links values b l room at)
-    read-matches room at = list-matches (λ s S below. N.one refl (of-found s S (λ t T. no-place t T below)) (λ e. N.none))
+    read-gives : (room at : ℕ) → Given (readConditions E links values b l room at) (firstThat (readTests E links values b l room at))
+    read-gives room at = list-gives (λ s S below. N.one refl (of-found s S (λ t T. no-place t T below)) (λ e. N.none))
       where
         many : ℕ
         many = foundOf E links values b l .length
@@ -156,26 +183,26 @@ module _ {E : Engine} (L : Lawful E) (links : E .Links) (values : List ℕ) (b :
     -- ---- the number of each call
 
     pub length-given : Given (listConditions E links values b l) (lengthCall E links values b l .refusal .number)
-    length-given = subst (Given (listConditions E links values b l)) (sym (length-number E links values b l)) (given (list-matches (λ s S below. N.none)))
+    length-given = subst (Given (listConditions E links values b l)) (sym (length-number E links values b l)) (list-gives (λ s S below. N.none))
 
     pub push-given : (end : End) (value : ℕ) → Given (pushConditions E links values b l) (pushCall E links values b l end value .number)
-    push-given end value = subst (Given (pushConditions E links values b l)) (sym (push-number E links values b l end value)) (given push-matches)
+    push-given end value = subst (Given (pushConditions E links values b l)) (sym (push-number E links values b l end value)) push-gives
 
     pub pop-given : (end : End) → Given (popConditions E links values b l) (popCall E links values b l end .number)
-    pop-given end = subst (Given (popConditions E links values b l)) (sym (pop-number E links values b l end)) (given pop-matches)
+    pop-given end = subst (Given (popConditions E links values b l)) (sym (pop-number E links values b l end)) pop-gives
 
     pub clear-given : Given (listConditions E links values b l) (clearCall E links values b l .number)
-    clear-given = subst (Given (listConditions E links values b l)) (sym (clear-number E links values b l)) (given (list-matches (λ s S below. N.none)))
+    clear-given = subst (Given (listConditions E links values b l)) (sym (clear-number E links values b l)) (list-gives (λ s S below. N.none))
 
     pub read-given : (end : End) (buffer : List ℕ) (at : ℕ) → Given (readConditions E links values b l (length buffer) at) (readCall E links values b l end buffer at .answer .refusal .number)
-    read-given end buffer at = subst (Given (readConditions E links values b l (length buffer) at)) (sym (read-number E links values b l end buffer at)) (given (read-matches (length buffer) at))
+    read-given end buffer at = subst (Given (readConditions E links values b l (length buffer) at)) (sym (read-number E links values b l end buffer at)) (read-gives (length buffer) at)
 
--- 01: "Tests run in the order 1 to 8". Which numbers a call can give besides 0, in the order in which their conditions are asked
+-- 01: "Tests run in the order 1 to 8", with 9 to 15 in the place of 3. Which numbers a call can give besides 0, in the order in which their conditions are asked
 module _ (E : Engine) (links : E .Links) (values : List ℕ) (b : AnyBook) (l room at places lists : ℕ) (shares limits : List ℕ) where
   pub numbers-in-order : (numbersOf (setupConditions E links values places lists shares limits) ≡ 1 ∷ 2 ∷ [])
-      × (numbersOf (checkConditions E links values b) ≡ 1 ∷ 3 ∷ [])
-      × (numbersOf (listConditions E links values b l) ≡ 1 ∷ 3 ∷ 4 ∷ [])
-      × (numbersOf (pushConditions E links values b l) ≡ 1 ∷ 3 ∷ 4 ∷ 6 ∷ 7 ∷ [])
-      × (numbersOf (popConditions E links values b l) ≡ 1 ∷ 3 ∷ 4 ∷ 5 ∷ [])
-      × (numbersOf (readConditions E links values b l room at) ≡ 1 ∷ 3 ∷ 4 ∷ 8 ∷ [])
+      × (numbersOf (checkConditions E links values b) ≡ 1 ∷ 9 ∷ 10 ∷ 11 ∷ 12 ∷ 13 ∷ 14 ∷ 15 ∷ [])
+      × (numbersOf (listConditions E links values b l) ≡ 1 ∷ 9 ∷ 10 ∷ 11 ∷ 12 ∷ 13 ∷ 14 ∷ 15 ∷ 4 ∷ [])
+      × (numbersOf (pushConditions E links values b l) ≡ 1 ∷ 9 ∷ 10 ∷ 11 ∷ 12 ∷ 13 ∷ 14 ∷ 15 ∷ 4 ∷ 6 ∷ 7 ∷ [])
+      × (numbersOf (popConditions E links values b l) ≡ 1 ∷ 9 ∷ 10 ∷ 11 ∷ 12 ∷ 13 ∷ 14 ∷ 15 ∷ 4 ∷ 5 ∷ [])
+      × (numbersOf (readConditions E links values b l room at) ≡ 1 ∷ 9 ∷ 10 ∷ 11 ∷ 12 ∷ 13 ∷ 14 ∷ 15 ∷ 4 ∷ 8 ∷ [])
   numbers-in-order = (refl, refl, refl, refl, refl, refl)

@@ -4,17 +4,19 @@ use mathlib.Core.List.{List, [], _∷_, _++_}
 use Prim.Native.Nat.{ℕ}
 use lib.Dec.{leb, eqb}
 use lib.ListN.{length, replicate}
+use Rattle.books.specs.Place.{Place, noPlace, numbered}
 use Rattle.books.specs.declared.Refusal.{Refusal}
 use Rattle.books.specs.Book.{zeroEntry, entryAt, AnyBook}
 use Rattle.books.specs.Test.{keepsRules}
 use Rattle.books.specs.Tabulate.{tabulate}
 use Rattle.shapes.specs.declared.End.{End}
 use Rattle.shapes.specs.Ends.{nearOf}
+use Rattle.shapes.specs.declared.Fault.{Fault}
 use Rattle.shapes.specs.declared.Found.{Found}
 use Rattle.shapes.specs.declared.Looked.{Looked}
-use Rattle.shapes.specs.Faults.{refusedBy}
+use Rattle.shapes.specs.Faults.{placeFor, answering, refusedBy}
 use Rattle.books.specs.declared.Length.{Length}
-use Rattle.shapes.specs.Numbers.{Test, test, firstThat, decided}
+use Rattle.shapes.specs.Numbers.{Test, test, decided}
 use Rattle.shapes.specs.Setup.{freshValue, freshEntry}
 use Rattle.shapes.specs.Changes.{withList}
 use Rattle.shapes.specs.Tests.{pushOwnTests, popOwnTests, readOwnTests, ReadLeft, readLeft, readOf}
@@ -22,9 +24,10 @@ use Rattle.engines.specs.Engine.{Engine, Step}
 use Rattle.engines.specs.Check.{sizesFit, checkFound, lookOf}
 use Rattle.engines.specs.Reads.{countRead, bufferAfter, clearOn}
 
--- what a call that may change the pool leaves: the number, the value that it hands out, 0 for none, the book and the cells
+-- what a call that may change the pool leaves: the number with its place, the value that it hands out, 0 for none, the book and the cells
 pub record Called (E : Engine) : Type 0 where
   pub number : ℕ
+  pub place : Place
   pub value : ℕ
   pub book : AnyBook
   pub links : E .Links
@@ -45,29 +48,29 @@ module _ (E : Engine) (places : ℕ) (links : E .Links) (values : List ℕ) (lis
   setupTests = test 1 (not (sizesFit E links values)) ∷ test 2 (not (keepsRules (E .size links) (freshBookOf places lists shares limits))) ∷ []
 
   abbrev pub setUp : Called E
-  setUp = record { number = 0; value = 0; book = freshBookOf places lists shares limits; links = E .fresh links; values = tabulate (length values) freshValue }
+  setUp = record { number = 0; place = noPlace; value = 0; book = freshBookOf places lists shares limits; links = E .fresh links; values = tabulate (length values) freshValue }
 
   unfoldable pub setupCall : Called E
-  setupCall = decided setupTests setUp (λ n. record { number = n; value = 0; book = zeroBookOf places; links = links; values = values })
+  setupCall = decided setupTests setUp (λ n. record { number = n; place = noPlace; value = 0; book = zeroBookOf places; links = links; values = values })
 
 -- ---- the nine calls
 
 module _ (E : Engine) (links : E .Links) (values : List ℕ) (b : AnyBook) where
-  -- a refusal. 01: "A refused pop returns value 0"; "the book comes back as it went in"; "No lent slice changes"
-  abbrev pub notCalled : ℕ → Called E
-  notCalled number = record { number = number; value = 0; book = b; links = links; values = values }
+  -- a refusal, with the place of the first fault where the number is its rule. 01: "A refused pop returns value 0"; "the book comes back as it went in"; "No lent slice changes"
+  abbrev pub notCalled : Fault → ℕ → Called E
+  notCalled f number = record { number = number; place = placeFor f number; value = 0; book = b; links = links; values = values }
 
   -- what a done step leaves, put back into the book
   abbrev pub stepped : ℕ → ℕ → Step (E .Links) → Called E
-  stepped l value r = record { number = 0; value = value; book = withList b l (r .entry) (r .free); links = r .links; values = r .values }
+  stepped l value r = record { number = 0; place = noPlace; value = value; book = withList b l (r .entry) (r .free); links = r .links; values = r .values }
 
-  -- 1 and 3, which every call but setup tests first. `wanted` is the list whose length is asked for
+  -- 1, and the rule that is first broken, 9 to 15, which every call but setup tests first. `wanted` is the list whose length is asked for
   abbrev pub checkTests : ℕ → List Test
-  checkTests wanted = test 1 (not (sizesFit E links values)) ∷ test 3 (not (eqb (checkFound E wanted links values b .fault .rule) 0)) ∷ []
+  checkTests wanted = test 1 (not (sizesFit E links values)) ∷ test (checkFound E wanted links values b .fault .rule) (not (eqb (checkFound E wanted links values b .fault .rule) 0)) ∷ []
 
   -- 01: "Check: 0 when sound"
   unfoldable pub checkCall : Refusal
-  checkCall = record { number = firstThat (checkTests 0) }
+  checkCall = decided (checkTests 0) (numbered 0) (answering (checkFound E 0 links values b .fault))
 
   module _ (l : ℕ) where
     abbrev pub foundOf : Found
@@ -86,11 +89,11 @@ module _ (E : Engine) (links : E .Links) (values : List ℕ) (b : AnyBook) where
     abbrev pub readTests : ℕ → ℕ → List Test
     readTests bufferSize at = listTests ++ readOwnTests (foundOf .length) bufferSize at
 
-    -- 1, 3 or 4, with nothing found, or else 0 and what the check found
+    -- 1, 9 to 15 or 4, with nothing found, or else 0 and what the check found
     unfoldable pub onListOf : Looked
     onListOf =
         let seen = lookOf E l links values b in
-        cond (eqb (seen .refusal .number) 0 && leb (b .lists) l) (refusedBy 4) seen
+        cond (eqb (seen .refusal .number) 0 && leb (b .lists) l) (refusedBy (numbered 4)) seen
 
     -- what each call leaves where it is done
     abbrev pub afterPush : End → ℕ → Called E
@@ -107,23 +110,23 @@ module _ (E : Engine) (links : E .Links) (values : List ℕ) (b : AnyBook) where
     abbrev pub afterRead : End → List ℕ → ℕ → ReadLeft
     afterRead end buffer at =
         let start = nearOf end (entryAt (b .entries) l) in
-        readLeft (readOf 0 (countRead E end links values start buffer at)) (bufferAfter E end links values start buffer at)
+        readLeft (readOf (numbered 0) (countRead E end links values start buffer at)) (bufferAfter E end links values start buffer at)
 
     -- 01: "a refused length or read returns 0"
     unfoldable pub lengthCall : Length
     lengthCall =
         decided listTests
-        (record { refusal = record { number = 0 }; length = foundOf .length })
-        (λ n. record { refusal = record { number = n }; length = 0 })
+        (record { refusal = numbered 0; length = foundOf .length })
+        (λ n. record { refusal = answering (foundOf .fault) n; length = 0 })
 
     unfoldable pub pushCall : End → ℕ → Called E
-    pushCall end value = decided pushTests (afterPush end value) notCalled
+    pushCall end value = decided pushTests (afterPush end value) (notCalled (foundOf .fault))
 
     unfoldable pub popCall : End → Called E
-    popCall end = decided popTests (afterPop end) notCalled
+    popCall end = decided popTests (afterPop end) (notCalled (foundOf .fault))
 
     unfoldable pub clearCall : Called E
-    clearCall = decided listTests (afterClear (foundOf .length)) notCalled
+    clearCall = decided listTests (afterClear (foundOf .length)) (notCalled (foundOf .fault))
 
     unfoldable pub readCall : End → List ℕ → ℕ → ReadLeft
-    readCall end buffer at = decided (readTests (length buffer) at) (afterRead end buffer at) (λ n. readLeft (readOf n 0) buffer)
+    readCall end buffer at = decided (readTests (length buffer) at) (afterRead end buffer at) (λ n. readLeft (readOf (answering (foundOf .fault) n) 0) buffer)

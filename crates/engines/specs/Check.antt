@@ -7,6 +7,7 @@ use lib.ListN.{length, take}
 use Rattle.books.specs.declared.Free.{Free}
 use Rattle.books.specs.declared.Entry.{Entry}
 use Rattle.books.specs.Book.{nullSlot, AnyBook}
+use Rattle.books.specs.Place.{numbered}
 use Rattle.books.specs.Test.{sizeFits, keepsRules}
 use Rattle.chains.specs.Chain.{cell, lastOr}
 use Rattle.shapes.specs.declared.End.the-variants.{Front}
@@ -15,7 +16,7 @@ use Rattle.shapes.specs.Walk.{Path, noPath, unwipedFrom, walkFrom}
 use Rattle.shapes.specs.declared.Gathered.{Gathered}
 use Rattle.shapes.specs.declared.Found.{Found}
 use Rattle.shapes.specs.declared.Looked.{Looked}
-use Rattle.shapes.specs.Faults.{fault, nothingMet, gatheredNone, gatherOne, gatherFault, Round, round, idleFault, faulty, refusedBy}
+use Rattle.shapes.specs.Faults.{fault, naming, lookedFine, nothingMet, gatheredNone, gatherOne, gatherFault, Round, round, idleFault, faulty, refusedBy}
 use Rattle.engines.specs.Engine.{Engine}
 
 -- what 1 refuses, as a test; the law `fits-exactly` says that it is true exactly where `Fit` holds
@@ -84,10 +85,10 @@ checkFound E wanted links values b =
     (poolFound E wanted links values (take (b .lists) (b .entries)) (b .free))
     (faulty (fault 9 0 0))
 
--- 1 or 3, with nothing found, or else 0 and what the check found
+-- 1, or the fault with its place, with nothing found, or else 0 and what the check found
 unfoldable pub lookOf : (E : Engine) → ℕ → E .Links → List ℕ → AnyBook → Looked
 lookOf E wanted links values b =
     let found = checkFound E wanted links values b in
     cond (sizesFit E links values)
-    (cond (eqb (found .fault .rule) 0) (record { refusal = record { number = 0 }; found = found }) (refusedBy 3))
-    (refusedBy 1)
+    (cond (eqb (found .fault .rule) 0) (lookedFine found) (refusedBy (naming (found .fault))))
+    (refusedBy (numbered 1))

@@ -1,15 +1,18 @@
--- 01's table of numbers: for each call the conditions in the order in which they are tested, said of the sound shape. What runs is in `Calls`.
+-- 01's table of numbers with 02 b)'s: for each call the conditions in the order in which they are tested, said of the sound shape, or of the first rule that is broken. What runs is in `Calls`.
 use mathlib.Core.Path.{_≡_}
 use mathlib.Core.Logic.{_⊎_}
 use mathlib.Core.List.{List, [], _∷_, _++_}
 use Prim.Native.Nat.{ℕ, _+_, _≤_, _<_}
 use lib.ListN.{length, take}
 use Rattle.books.specs.Book.{entryAt, AnyBook}
+use Rattle.books.specs.Table.{faultRules}
 use Rattle.shapes.specs.Shape.{Shape, chainAt, lacks}
 use Rattle.shapes.specs.Numbers.{Condition, condition}
 use Rattle.shapes.specs.Setup.{SetupRules}
+use Rattle.shapes.specs.Faults.{fault}
 use Rattle.engines.specs.Engine.{Engine}
 use Rattle.engines.specs.Sound.{Fit, SoundBook}
+use Rattle.engines.specs.FirstFault.{Breaks}
 
 module _ (E : Engine) (links : E .Links) (values : List ℕ) where
   -- 1: "lengths differ, or N under 2 or over 4,096"; 2: "setup's L, shares or limits break the book rules"
@@ -21,9 +24,18 @@ module _ (E : Engine) (links : E .Links) (values : List ℕ) (b : AnyBook) where
   abbrev pub OfShape : (Shape → Type 0) → Type 0
   OfShape Fact = (s : Shape) × SoundBook E links values b s × Fact s
 
-  -- 1, and 3: "not sound"
+  -- rule k is broken, at some list and position, and no rule before it is
+  abbrev pub FirstBroken : ℕ → Type 0
+  FirstBroken k = (list : ℕ) × (place : ℕ) × Breaks E links values b (fault k list place)
+
+  -- each of the rules, in their order
+  abbrev pub rulesBroken : List ℕ → List Condition
+  rulesBroken [] = []
+  rulesBroken (k ∷ ks) = condition k (FirstBroken k) ∷ rulesBroken ks
+
+  -- 1, and then 9 to 15
   abbrev pub checkConditions : List Condition
-  checkConditions = condition 1 (Fit E links values → ⊥) ∷ condition 3 (((s : Shape) × SoundBook E links values b s) → ⊥) ∷ []
+  checkConditions = condition 1 (Fit E links values → ⊥) ∷ rulesBroken faultRules
 
   module _ (l : ℕ) where
     -- 4: "list number not below L"

@@ -8,6 +8,7 @@ use lib.ListN.{length, getD, set, take, drop}
 use Rattle.books.specs.declared.Free.{Free}
 use Rattle.books.specs.declared.Entry.{Entry}
 use Rattle.books.specs.Book.{nullSlot, wipeWord, entryAt, AnyBook}
+use Rattle.books.specs.Place.{noPlace, placeIn}
 use Rattle.chains.specs.Count.{count}
 use Rattle.chains.specs.Chain.{cell}
 use Rattle.shapes.specs.declared.End.{End}
@@ -34,6 +35,7 @@ pub data Emptied (E : Engine) : E .Links → List ℕ → Entry → Free → Ste
 
 -- 01: "a refused setup returns the all-zero book", and "no lent slice changes"
 pub record SetupRefused (E : Engine) (places : ℕ) (links : E .Links) (values : List ℕ) (r : Called E) : Type 0 where
+  pub unplaced : r .place ≡ noPlace
   pub noValue : r .value ≡ 0
   pub zeroed : r .book ≡ zeroBookOf places
   pub sameLinks : r .links ≡ links
@@ -42,6 +44,7 @@ pub record SetupRefused (E : Engine) (places : ℕ) (links : E .Links) (values :
 -- a done setup: the book has as many lists as were asked for, each with its share and limit, and every slot is free
 pub record SetupKeeps (E : Engine) (places : ℕ) (links : E .Links) (lists : ℕ) (shares limits : List ℕ) (r : Called E) : Type 0 where
   pub number : r .number ≡ 0
+  pub unplaced : r .place ≡ noPlace
   pub noValue : r .value ≡ 0
   pub samePlaces : r .book .places ≡ places
   pub asMany : r .book .lists ≡ lists
@@ -70,6 +73,7 @@ module _ (E : Engine) (links : E .Links) (values : List ℕ) (b : AnyBook) where
   pub record Pushes (end : End) (l value : ℕ) (s : Shape) (r : Called E) : Type 0 where
     pub listed : l < b .lists
     pub number : r .number ≡ 0
+    pub unplaced : r .place ≡ noPlace
     pub noValue : r .value ≡ 0
     -- 01: "take the slot at the free head"
     pub slot : ℕ
@@ -88,6 +92,7 @@ module _ (E : Engine) (links : E .Links) (values : List ℕ) (b : AnyBook) where
   pub record Pops (end : End) (l : ℕ) (s : Shape) (r : Called E) : Type 0 where
     pub listed : l < b .lists
     pub number : r .number ≡ 0
+    pub unplaced : r .place ≡ noPlace
     pub slot : ℕ
     pub rest : List ℕ
     pub last : chainAt s l ≡ joined end slot rest
@@ -105,6 +110,7 @@ module _ (E : Engine) (links : E .Links) (values : List ℕ) (b : AnyBook) where
   pub record Clears (l : ℕ) (s : Shape) (r : Called E) : Type 0 where
     pub listed : l < b .lists
     pub number : r .number ≡ 0
+    pub unplaced : r .place ≡ noPlace
     pub noValue : r .value ≡ 0
     pub sound : SoundBook E (r .links) (r .values) (r .book) (put s l [] (reverse (chainAt s l) ++ s .idle))
     -- 01: "equals popping the front until the list is empty"
@@ -120,6 +126,7 @@ module _ (E : Engine) (links : E .Links) (values : List ℕ) (b : AnyBook) where
 -- a done read of list l: its values, from the end on, stand in the buffer from `at` on, and every other place keeps what it held
 pub record Reads (end : End) (values : List ℕ) (l : ℕ) (buffer : List ℕ) (at : ℕ) (s : Shape) (r : ReadLeft) : Type 0 where
   pub number : r .answer .refusal .number ≡ 0
+  pub unplaced : placeIn (r .answer .refusal) ≡ noPlace
   pub counted : r .answer .count ≡ length (chainAt s l)
   pub places : r .buffer ≡ take at buffer ++ fromEnd end (contents values (chainAt s l)) ++ drop (at + length (chainAt s l)) buffer
 

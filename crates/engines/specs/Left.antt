@@ -123,7 +123,7 @@ turns =
     ∷ turn full (pushBack 1 9) 7 0 full
     ∷ turn atLimit (pushBack 0 9) 6 0 atLimit
     ∷ turn atLimit (pushFront 0 9) 6 0 atLimit
-    ∷ joinedAll (map (λ l. staysBy 3 damaged l ++ staysBy 1 uneven l) (0 ∷ 1 ∷ 9 ∷ []))
+    ∷ joinedAll (map (λ l. staysBy 10 damaged l ++ staysBy 1 uneven l) (0 ∷ 1 ∷ 9 ∷ []))
 
 -- the value that a call hands out
 abbrev valueOf : State trial → Move → ℕ
@@ -187,8 +187,8 @@ readsTried =
     -- no pool, and one that is not sound
     ∷ readTurn uneven Front 0 (six 1 2 3 4 5 6) 0 1 0 (six 1 2 3 4 5 6)
     ∷ readTurn uneven Back 0 (six 1 2 3 4 5 6) 0 1 0 (six 1 2 3 4 5 6)
-    ∷ readTurn damaged Front 0 (six 1 2 3 4 5 6) 0 3 0 (six 1 2 3 4 5 6)
-    ∷ readTurn damaged Back 0 (six 1 2 3 4 5 6) 0 3 0 (six 1 2 3 4 5 6)
+    ∷ readTurn damaged Front 0 (six 1 2 3 4 5 6) 0 10 0 (six 1 2 3 4 5 6)
+    ∷ readTurn damaged Back 0 (six 1 2 3 4 5 6) 0 10 0 (six 1 2 3 4 5 6)
     ∷ map (λ b. readTurn (oneHeld b) Front 0 (7 ∷ []) 0 0 1 (b ∷ [])) edgeBits
 
 abbrev pub readsPass : List ReadTurn → Bool
@@ -201,7 +201,7 @@ readsPass (t ∷ ts) =
 abbrev pub lengths : List ℕ
 lengths = map (λ l. lengthCall trial (full .links) (full .values) (full .book) l .length) (0 ∷ 1 ∷ 2 ∷ 9 ∷ [])
 
--- and 0 where it is refused by 1 or by 3
+-- and 0 where it is refused by 1 or by 10
 abbrev pub refusedLengths : List ℕ
 refusedLengths = map (λ l. lengthCall trial (uneven .links) (uneven .values) (uneven .book) l .length) (0 ∷ 1 ∷ 9 ∷ []) ++ map (λ l. lengthCall trial (damaged .links) (damaged .values) (damaged .book) l .length) (0 ∷ 1 ∷ 9 ∷ [])
 

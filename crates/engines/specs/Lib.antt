@@ -5,6 +5,7 @@ pub mod Laws
 pub mod Conditions
 pub mod Check
 pub mod Look
+pub mod Positions
 pub mod FirstFault
 pub mod Walked
 pub mod Reads
@@ -13,6 +14,7 @@ pub mod OnList
 pub mod Done
 pub mod Moves
 pub mod Rows
+pub mod Named
 pub mod Trace
 pub mod Undo
 -- an engine to compute with, and cases over it on both sides of every clause and condition

@@ -2,6 +2,7 @@
 use mathlib.Core.Path.{_≡_}
 use mathlib.Core.List.{List}
 use Prim.Native.Nat.{ℕ, _<_}
+use Rattle.books.specs.Place.{Place, placeIn}
 use Rattle.books.specs.Book.{nullSlot, wipeWord, AnyBook}
 use Rattle.chains.specs.Count.{count}
 use Rattle.chains.specs.Chain.{cell}
@@ -35,6 +36,18 @@ module _ (E : Engine) where
   numberOf st (readForward l buffer at) = readCall E (st .links) (st .values) (st .book) l Front buffer at .answer .refusal .number
   numberOf st (readBackward l buffer at) = readCall E (st .links) (st .values) (st .book) l Back buffer at .answer .refusal .number
   numberOf st (clear l) = clearCall E (st .links) (st .values) (st .book) l .number
+
+  -- the place that goes with it
+  abbrev pub placeGiven : State E → Move → Place
+  placeGiven st check = placeIn (checkCall E (st .links) (st .values) (st .book))
+  placeGiven st (askLength l) = placeIn (lengthCall E (st .links) (st .values) (st .book) l .refusal)
+  placeGiven st (pushBack l value) = pushCall E (st .links) (st .values) (st .book) l Back value .place
+  placeGiven st (pushFront l value) = pushCall E (st .links) (st .values) (st .book) l Front value .place
+  placeGiven st (popBack l) = popCall E (st .links) (st .values) (st .book) l Back .place
+  placeGiven st (popFront l) = popCall E (st .links) (st .values) (st .book) l Front .place
+  placeGiven st (readForward l buffer at) = placeIn (readCall E (st .links) (st .values) (st .book) l Front buffer at .answer .refusal)
+  placeGiven st (readBackward l buffer at) = placeIn (readCall E (st .links) (st .values) (st .book) l Back buffer at .answer .refusal)
+  placeGiven st (clear l) = clearCall E (st .links) (st .values) (st .book) l .place
 
   -- what the call leaves. Check, length and the reads are lent the slices to read alone, and return no book
   abbrev pub after : State E → Move → State E

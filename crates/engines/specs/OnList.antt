@@ -4,6 +4,7 @@ use Prim.Native.Nat.{ℕ}
 use Rattle.books.specs.declared.Free.{Free}
 use Rattle.books.specs.declared.Entry.{Entry}
 use Rattle.books.specs.Book.{AnyBook}
+use Rattle.books.specs.Place.{noPlace}
 use Rattle.shapes.specs.declared.ListChange.{ListChange}
 use Rattle.shapes.specs.declared.End.{End}
 use Rattle.shapes.specs.declared.Found.{Found}
@@ -44,7 +45,7 @@ module _ (E : Engine) (links : E .Links) (values : List ℕ) (list : Entry) (fre
 
 -- put back into the book
 abbrev pub putBack : {E : Engine} → AnyBook → ℕ → OnList E → Called E
-putBack b l r = record { number = r .number; value = r .value; book = withList b l (r .entry) (r .free); links = r .links; values = r .values }
+putBack b l r = record { number = r .number; place = noPlace; value = r .value; book = withList b l (r .entry) (r .free); links = r .links; values = r .values }
 
 -- ---- setup but for the book
 

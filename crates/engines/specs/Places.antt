@@ -29,12 +29,19 @@ three a b c = a ∷ b ∷ c ∷ []
 abbrev four : ℕ → ℕ → ℕ → ℕ → List ℕ
 four a b c d = a ∷ b ∷ c ∷ d ∷ []
 
+abbrev five : ℕ → ℕ → ℕ → ℕ → ℕ → List ℕ
+five a b c d e = a ∷ b ∷ c ∷ d ∷ e ∷ []
+
 abbrev pub faultPools : List FaultCase
 faultPools =
     -- no fault: a list of two slots
     faultCase 0 0 0 (three 0 2 0) (three 0 0 1) (three 0 8 9) 1 (entry 1 2 0 2 ∷ none 7) 0
-    -- rule 9 goes before rule 10, and rule 10 before rule 11: slot 0's links and its value
+    -- rule 9 goes before rule 10, by each of its clauses, and rule 10 before rule 11: slot 0's links and its value
     ∷ faultCase 9 0 0 (two 1 0) (two 0 0) (two 0 0) 1 (entry 0 0 1 0 ∷ none 7) 1
+    ∷ faultCase 9 0 0 (two 1 0) (two 0 0) (two 0 0) 1 (entry 0 0 0 2 ∷ none 7) 1
+    ∷ faultCase 9 0 0 (two 1 0) (two 0 0) (two 0 0) 1 (entry 0 0 0 1 ∷ entry 0 0 0 1 ∷ none 6) 1
+    ∷ faultCase 9 0 0 (two 1 0) (two 0 0) (two 0 0) 2 (entry 0 0 1 1 ∷ entry 0 0 1 1 ∷ none 6) 1
+    ∷ faultCase 9 0 0 (two 1 0) (two 0 0) (two 0 0) 9 (none 8) 1
     ∷ faultCase 10 0 0 (two 1 0) (two 0 0) (two 0 0) 1 (entry 0 1 0 1 ∷ none 7) 1
     ∷ faultCase 10 0 0 (two 0 0) (two 1 0) (two 0 0) 1 (entry 0 1 0 1 ∷ none 7) 1
     ∷ faultCase 10 0 0 (two 0 0) (two 0 0) (two 1 0) 1 (entry 0 1 0 1 ∷ none 7) 1
@@ -47,7 +54,15 @@ faultPools =
     ∷ faultCase 11 0 2 (three 0 2 1) (three 0 0 1) (three 0 8 9) 1 (entry 1 2 0 2 ∷ none 7) 0
     ∷ faultCase 11 0 2 (three 0 2 0) (three 0 0 1) (three 0 8 9) 1 (entry 1 1 0 2 ∷ none 7) 0
     ∷ faultCase 11 0 1 (three 0 0 0) (three 0 0 0) (three 0 8 0) 1 (entry 1 2 0 2 ∷ none 7) 2
-    -- 02 f): "a wrong previous link, at its slot's position"
+    -- it goes on behind the tail, to a slot past the pool and back to a slot; the tail is the head
+    ∷ faultCase 11 0 2 (three 0 2 3) (three 0 0 1) (three 0 8 9) 1 (entry 1 1 0 2 ∷ none 7) 0
+    ∷ faultCase 11 0 2 (three 0 2 1) (three 0 0 1) (three 0 8 9) 1 (entry 1 1 0 2 ∷ none 7) 0
+    -- slot N-1 is one of the pool, N is not: at the head, behind it, and as a tail that is never come to
+    ∷ faultCase 0 0 0 (three 0 0 0) (three 0 0 0) (three 0 0 9) 1 (entry 2 2 0 2 ∷ none 7) 1
+    ∷ faultCase 11 0 0 (three 0 0 0) (three 0 0 0) (three 0 0 9) 1 (entry 3 2 0 2 ∷ none 7) 1
+    ∷ faultCase 11 0 1 (three 0 3 0) (three 0 0 1) (three 0 8 9) 1 (entry 1 2 0 2 ∷ none 7) 0
+    ∷ faultCase 11 0 2 (three 0 2 0) (three 0 0 1) (three 0 8 9) 1 (entry 1 3 0 2 ∷ none 7) 0
+    -- 02 f): a wrong previous link, at the position of its slot
     ∷ faultCase 11 0 0 (three 0 2 0) (three 0 2 1) (three 0 8 9) 1 (entry 1 2 0 2 ∷ none 7) 0
     ∷ faultCase 11 0 1 (three 0 2 0) (three 0 0 2) (three 0 8 9) 1 (entry 1 2 0 2 ∷ none 7) 0
     -- a slot of list 0 in list 1: at its head, and behind it. List 0's fault goes before list 1's, and list 1's before list 2's
@@ -55,6 +70,21 @@ faultPools =
     ∷ faultCase 11 1 1 (three 0 0 1) (three 0 0 0) (three 0 8 9) 2 (entry 1 1 0 2 ∷ entry 2 1 0 2 ∷ none 6) 0
     ∷ faultCase 11 0 1 (two 0 0) (two 0 0) (two 0 5) 2 (entry 1 0 0 1 ∷ entry 1 1 0 1 ∷ none 6) 0
     ∷ faultCase 11 1 0 (two 0 0) (two 0 0) (two 0 5) 3 (entry 1 1 0 1 ∷ entry 0 1 0 1 ∷ entry 1 1 0 1 ∷ none 5) 0
+    -- the wrong tail of list 0 goes before a slot of it in list 1, and before list 1's own wrong tail; after a whole list 0 the position in list 1 is its own
+    ∷ faultCase 11 0 2 (three 0 2 0) (three 0 0 1) (three 0 8 9) 2 (entry 1 1 0 2 ∷ entry 2 2 0 2 ∷ none 6) 0
+    ∷ faultCase 11 0 0 (three 0 0 0) (three 0 0 0) (three 0 8 9) 2 (entry 0 1 0 2 ∷ entry 1 2 0 2 ∷ none 6) 2
+    ∷ faultCase 11 1 1 (three 0 0 0) (three 0 0 0) (three 0 8 9) 2 (entry 1 1 0 2 ∷ entry 2 1 0 2 ∷ none 6) 0
+    ∷ faultCase 11 1 2 (five 0 2 0 4 0) (five 0 0 1 0 3) (five 0 6 7 8 9) 2 (entry 1 2 0 4 ∷ entry 3 3 0 4 ∷ none 6) 0
+    ∷ faultCase 11 1 2 (five 0 2 0 4 2) (five 0 0 1 0 3) (five 0 6 7 8 9) 2 (entry 1 2 0 4 ∷ entry 3 2 0 4 ∷ none 6) 0
+    -- a slot in two lists is met in the later one: list 0 goes on into list 1's slot, list 2 into list 0's, over an empty list
+    ∷ faultCase 11 1 0 (three 0 2 0) (three 0 0 1) (three 0 8 9) 2 (entry 1 2 0 2 ∷ entry 2 2 0 2 ∷ none 6) 0
+    ∷ faultCase 11 2 0 (three 0 0 0) (three 0 0 0) (three 0 8 9) 3 (entry 1 1 0 2 ∷ entry 2 2 0 2 ∷ entry 1 1 0 2 ∷ none 5) 0
+    ∷ faultCase 11 2 1 (three 0 0 1) (three 0 0 0) (three 0 8 9) 3 (entry 1 1 0 2 ∷ entry 0 0 0 2 ∷ entry 2 1 0 2 ∷ none 5) 0
+    ∷ faultCase 0 0 0 (three 0 0 0) (three 0 0 0) (three 0 8 9) 3 (entry 1 1 0 2 ∷ entry 0 0 0 2 ∷ entry 2 2 0 2 ∷ none 5) 0
+    -- the wrong tail of list 1, where list 0 is over its limit; slot N at list 1's head, and behind it
+    ∷ faultCase 11 1 1 (three 0 0 0) (three 0 0 0) (three 0 8 9) 2 (entry 1 1 0 0 ∷ entry 2 1 0 2 ∷ none 6) 0
+    ∷ faultCase 11 1 0 (three 0 0 0) (three 0 0 0) (three 0 8 0) 2 (entry 1 1 0 2 ∷ entry 3 2 0 2 ∷ none 6) 2
+    ∷ faultCase 11 1 1 (three 0 0 3) (three 0 0 0) (three 0 8 9) 2 (entry 1 1 0 2 ∷ entry 2 1 0 2 ∷ none 6) 0
     -- rule 12: a free head past the pool; a free chain that comes back; one that leaves the pool; one that goes into a list; a previous link; behind a wiped slot
     ∷ faultCase 12 0 0 (two 0 0) (two 0 0) (two 0 0) 1 (entry 0 0 0 1 ∷ none 7) 7
     ∷ faultCase 12 0 1 (two 0 1) (two 0 0) (two 0 0) 1 (entry 0 0 0 1 ∷ none 7) 1
@@ -62,13 +92,32 @@ faultPools =
     ∷ faultCase 12 0 1 (three 0 0 1) (three 0 0 0) (three 0 8 0) 1 (entry 1 1 0 2 ∷ none 7) 2
     ∷ faultCase 12 0 0 (two 0 0) (two 0 1) (two 0 0) 1 (entry 0 0 0 1 ∷ none 7) 1
     ∷ faultCase 12 0 1 (three 0 2 0) (three 0 0 1) (three 0 0 0) 1 (entry 0 0 0 2 ∷ none 7) 1
+    -- free slot N-1 is one of the pool, N is not, and is named before a slot that is nowhere; the chain comes back to its head and to a later slot
+    ∷ faultCase 0 0 0 (three 0 2 0) (three 0 0 0) (three 0 0 0) 1 (entry 0 0 0 2 ∷ none 7) 1
+    ∷ faultCase 12 0 1 (three 0 3 0) (three 0 0 0) (three 0 0 0) 1 (entry 0 0 0 2 ∷ none 7) 1
+    ∷ faultCase 12 0 2 (three 0 2 1) (three 0 0 0) (three 0 0 0) 1 (entry 0 0 0 2 ∷ none 7) 1
+    ∷ faultCase 12 0 2 (three 0 2 2) (three 0 0 0) (three 0 0 0) 1 (entry 0 0 0 2 ∷ none 7) 1
+    -- a slot of list 0 and of list 1 in the free chain: at its head, and behind it. A list's fault goes before the free chain's
+    ∷ faultCase 12 0 0 (three 0 0 0) (three 0 0 0) (three 0 8 9) 2 (entry 1 1 0 2 ∷ entry 2 2 0 2 ∷ none 6) 1
+    ∷ faultCase 12 0 0 (three 0 0 0) (three 0 0 0) (three 0 8 9) 2 (entry 1 1 0 2 ∷ entry 2 2 0 2 ∷ none 6) 2
+    ∷ faultCase 12 0 1 (four 0 0 0 2) (four 0 0 0 0) (four 0 8 9 0) 2 (entry 1 1 0 3 ∷ entry 2 2 0 3 ∷ none 6) 3
+    ∷ faultCase 11 1 1 (three 0 0 0) (three 0 0 0) (three 0 8 9) 2 (entry 1 1 0 2 ∷ entry 2 1 0 2 ∷ none 6) 3
+    -- rule 12 goes before a walked slot that has a value, a list over its limit, and shares that are not covered
+    ∷ faultCase 12 0 1 (three 0 3 0) (three 0 0 0) (three 0 6 0) 1 (entry 0 0 0 2 ∷ none 7) 1
+    ∷ faultCase 12 0 1 (three 0 0 3) (three 0 0 0) (three 0 8 0) 1 (entry 1 1 0 0 ∷ none 7) 2
+    ∷ faultCase 12 0 1 (three 0 0 3) (three 0 0 0) (three 0 8 0) 2 (entry 1 1 0 2 ∷ entry 0 0 2 2 ∷ none 6) 2
     -- rule 13: the lowest slot that is nowhere, before a free slot that has a value
     ∷ faultCase 13 0 1 (three 0 0 0) (three 0 0 0) (three 0 0 9) 1 (entry 0 0 0 2 ∷ none 7) 2
     ∷ faultCase 13 0 2 (four 0 0 0 0) (four 0 0 0 0) (four 0 0 0 0) 1 (entry 1 1 0 3 ∷ none 7) 0
     ∷ faultCase 13 0 3 (four 0 2 0 0) (four 0 0 0 0) (four 0 0 0 0) 1 (entry 0 0 0 3 ∷ none 7) 1
+    -- before a list over its limit, and before shares that are not covered
+    ∷ faultCase 13 0 2 (three 0 0 0) (three 0 0 0) (three 0 8 0) 1 (entry 1 1 0 0 ∷ none 7) 0
+    ∷ faultCase 13 0 2 (three 0 0 0) (three 0 0 0) (three 0 8 0) 2 (entry 1 1 0 2 ∷ entry 0 0 1 1 ∷ none 6) 0
     -- rule 14: slots 3, 1 and 2 are free in this order, 3 and 2 have values: the lowest slot is named, before a list over its limit
     ∷ faultCase 14 0 2 (four 0 2 0 1) (four 0 0 0 0) (four 0 0 8 9) 1 (entry 0 0 0 3 ∷ none 7) 3
     ∷ faultCase 14 0 1 (three 0 0 0) (three 0 0 0) (three 0 1 5) 1 (entry 2 2 0 0 ∷ none 7) 1
+    -- and, where no list is over its limit, before shares that are not covered
+    ∷ faultCase 14 0 2 (three 0 0 0) (three 0 0 0) (three 0 8 7) 2 (entry 1 1 0 2 ∷ entry 0 0 2 2 ∷ none 6) 2
     -- rule 15: lists 1 and 2 are over their limits; no list is, and the free slots do not cover the lacks: L stands for the list
     ∷ faultCase 15 1 0 (four 0 0 0 0) (four 0 0 0 0) (four 0 8 9 7) 3 (entry 1 1 0 1 ∷ entry 2 2 0 0 ∷ entry 3 3 0 0 ∷ none 5) 0
     ∷ faultCase 15 2 0 (three 0 2 0) (three 0 0 1) (three 0 8 8) 2 (entry 1 2 0 2 ∷ entry 0 0 1 1 ∷ none 6) 0

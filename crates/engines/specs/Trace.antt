@@ -56,5 +56,5 @@ module _ (E : Engine) (places lists : ℕ) (shares limits : List ℕ) where
     pub seven : (l value : ℕ) → l < lists
         → let Tight = (length (chainAt s l) < getD limits l 0) × (getD shares l 0 ≤ length (chainAt s l)) × (length (s .idle) ≤ othersLack (st .book) s l) in
         (numberOf E st (pushBack l value) ≡ 7 ↔ Tight) × (numberOf E st (pushFront l value) ≡ 7 ↔ Tight)
-    -- no call of a trace is refused by 1 or by 3
-    pub never : (m : Move) → (numberOf E st m ≢ 1) × (numberOf E st m ≢ 3)
+    -- no call of a trace is refused by 1, or by one of 9 to 15
+    pub never : (m : Move) → (numberOf E st m ≢ 1) × ((k : ℕ) → 9 ≤ k → k ≤ 15 → numberOf E st m ≢ k)

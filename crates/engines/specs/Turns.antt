@@ -1,27 +1,33 @@
--- Calls on both sides of each condition of each number from 1 to 8 but setup's, over the engine `trial`: the pool, the call, and the number that it must give. Where several conditions hold, the first decides.
+-- Calls on both sides of each condition of each number but setup's, over the engine `trial`: the pool, the call, and the number that it must give, with its place. Where several conditions hold, the first decides.
 use mathlib.Core.Bool.{Bool, true, cond, _&&_}
 use mathlib.Core.List.{List, [], _∷_, _++_, map}
 use Prim.Native.Nat.{ℕ, suc, _+_}
 use lib.Dec.{eqb}
 use lib.ListN.{set, replicate}
 use Rattle.books.specs.declared.Entry.{Entry}
+use Rattle.books.specs.declared.Refusal.{Refusal}
+use Rattle.books.specs.Place.{refusalOf, numbered}
 use Rattle.books.specs.Tried.{entry, none, edgeBits, allBits, numbersFrom}
 use Rattle.shapes.specs.Moves.{Move, check, askLength, pushBack, pushFront, popBack, popFront, readForward, readBackward, clear}
-use Rattle.engines.specs.Moves.{State, numberOf}
+use Rattle.engines.specs.Moves.{State, numberOf, placeGiven}
+use Rattle.engines.specs.Edges.{sound, broken, sameRefusal}
 use Rattle.engines.specs.Trial.{trial, pool}
 
--- a pool, a call, and the number that it must give
+-- a pool, a call, and the number that it must give, with its place
 pub record Asked : Type 0 where
-  pub number : ℕ
+  pub answer : Refusal
   pub state : State trial
   pub move : Move
 
-abbrev asked : ℕ → State trial → Move → Asked
-asked number state move = record { number = number; state = state; move = move }
+abbrev asked : Refusal → State trial → Move → Asked
+asked answer state move = record { answer = answer; state = state; move = move }
 
--- each of the calls must give the number
+-- each of the calls must give the number, without a place; or name the rule, with its place
 abbrev allGive : ℕ → State trial → List Move → List Asked
-allGive number state moves = map (asked number state) moves
+allGive number state moves = map (asked (numbered number) state) moves
+
+abbrev allName : Refusal → State trial → List Move → List Asked
+allName answer state moves = map (asked answer state) moves
 
 -- the eight calls on list l. The reads ask for place 1 of a buffer that has none
 abbrev onList : ℕ → List Move
@@ -65,10 +71,10 @@ ones =
     ++ allGive 1 (ofSizes 0 0 0) (check ∷ onList 9)
     ++ allGive 1 (ofSizes 1 1 1) (check ∷ onList 9)
     ++ allGive 1 (ofSizes 4097 4097 4097) (check ∷ askLength 9 ∷ [])
-    -- two slots and 4,096 are a pool: 3 is the number of an unsound one, and 0 of a sound one
-    ++ asked 3 (ofSizes 2 2 2) check
-    ∷ asked 0 (free 1 (entry 0 0 0 1 ∷ none 7)) check
-    ∷ asked 3 (pool (replicate 4096 0) (replicate 4096 0) (replicate 4096 0) 0 (none 8) 1) check
+    -- two slots and 4,096 are a pool, of which 9 is said, or 0
+    ++ asked (broken 9 0 0) (ofSizes 2 2 2) check
+    ∷ asked sound (free 1 (entry 0 0 0 1 ∷ none 7)) check
+    ∷ asked (broken 9 0 0) (pool (replicate 4096 0) (replicate 4096 0) (replicate 4096 0) 0 (none 8) 1) check
     ∷ []
 
 -- P3 with another value in slot 0, and with two free slots that are one
@@ -78,11 +84,11 @@ unsound = pool (0 ∷ 2 ∷ 4 ∷ 1 ∷ 0 ∷ 0 ∷ []) (0 ∷ 3 ∷ 1 ∷ 0 ∷
 abbrev turningBack : State trial
 turningBack = pool (0 ∷ 2 ∷ 4 ∷ 1 ∷ 0 ∷ 5 ∷ []) (0 ∷ 3 ∷ 1 ∷ 0 ∷ 2 ∷ 0 ∷ []) (0 ∷ 20 ∷ 30 ∷ 10 ∷ 40 ∷ 0 ∷ []) 2 trialEntries 5
 
--- 3: "not sound", whatever is asked of the list; 4: "list number not below L", whatever is asked of it; 5: "the list is empty"
+-- 10 and 12, whatever is asked of the list; 4: "list number not below L", whatever is asked of it; 5: "the list is empty"
 abbrev pub listNumbers : List Asked
 listNumbers =
-    allGive 3 unsound (check ∷ onList 9)
-    ++ allGive 3 turningBack (check ∷ onList 1)
+    allName (broken 10 0 0) unsound (check ∷ onList 9)
+    ++ allName (broken 12 0 1) turningBack (check ∷ onList 1)
     ++ allGive 4 trialP3 (onList 2)
     ++ allGive 4 trialP3 (onList 3)
     ++ allGive 4 trialP3 (onList 7)
@@ -178,7 +184,7 @@ readNumbers =
     ++ allGive 8 trialP3 (readsAt 1 5 allBits)
     ++ joinedAll (map (λ b. allGive 8 trialP3 (readsAt 1 5 (5 + b)) ++ allGive 8 trialP3 (readsAt 0 5 (1 + b))) edgeBits)
 
--- does each call give its number?
+-- does each call give its number and place?
 abbrev pub numbersPass : List Asked → Bool
 numbersPass [] = true
-numbersPass (a ∷ more) = eqb (numberOf trial (a .state) (a .move)) (a .number) && numbersPass more
+numbersPass (a ∷ more) = sameRefusal (refusalOf (numberOf trial (a .state) (a .move)) (placeGiven trial (a .state) (a .move))) (a .answer) && numbersPass more

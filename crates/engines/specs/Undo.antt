@@ -4,6 +4,7 @@ use mathlib.Core.List.{List}
 use Prim.Native.Nat.{ℕ, _<_}
 use lib.ListN.{length}
 use Rattle.books.specs.Book.{entryAt}
+use Rattle.books.specs.Place.{noPlace}
 use Rattle.shapes.specs.Ends.{contents}
 use Rattle.shapes.specs.Shape.{Shape, chainAt}
 use Rattle.shapes.specs.Moves.{Move}
@@ -18,6 +19,7 @@ module _ (E : Engine) where
   -- the call is done and hands out the value, 0 for a push; every link, every value and every field of the book is what it was
   pub record Undone (before : State E) (value : ℕ) (r : Called E) : Type 0 where
     pub number : r .number ≡ 0
+    pub unplaced : r .place ≡ noPlace
     pub handed : r .value ≡ value
     pub sameLinks : r .links ≡ before .links
     pub sameValues : r .values ≡ before .values
