@@ -12,6 +12,7 @@ use Rattle.shapes.specs.Faults.{nothingMet, spareFault, idleFault}
 use Rattle.engines.specs.Check.{sizesFit, idlePath, gatherAll, nullSlotZero, poolFound, checkFound}
 use Rattle.engines.specs.Reads.{isSlot, valuesAlong, clearOn}
 use Rattle.engines.specs.Calls.{setupCall, lengthCall, pushCall, popCall, clearCall, readCall}
+use Rattle.books.specs.Place.{numbered}
 use Rattle.engines.specs.Trial.{trial}
 use Rattle.engines.specs.Places.{faultsFound}
 use Rattle.cases.specs.Many.{manyPools, longList, longPasses}
@@ -21,7 +22,7 @@ unfolding tabulate isFair isZero gather allZero keepsRules sizesFit decided fres
 many-slots-tried = refl
 
 -- a list of all of them is sound, and its length is 259
-pub long-list-tried : lengthCall trial (longList .links) (longList .values) (longList .book) 0 ≡ record { refusal = record { number = 0 }; length = 259 }
+pub long-list-tried : lengthCall trial (longList .links) (longList .values) (longList .book) 0 ≡ record { refusal = numbered 0; length = 259 }
 unfolding tabulate isFair isZero gather allZero keepsRules sizesFit decided freshValue setupCall nothingMet gatherAll spareFault idleFault nullSlotZero poolFound checkFound isMetOf markOf unmet walkOn walkable idlePath lengthCall
 long-list-tried = refl
 

@@ -1,20 +1,23 @@
--- 01's marked pools, P1 to P10: the calls, and what each must give, as 01 says it. One test runs them all.
+-- 01's marked pools, P1 to P10: the calls, and what each must give, as 01 says it, P9 as 02 b) says it. One test runs them all.
 use mathlib.Core.Bool.{Bool, true, false, _&&_}
 use mathlib.Core.List.{List, [], _∷_}
 use Prim.Native.Nat.{ℕ}
 use lib.Dec.{eqb}
 use lib.ListN.{replicate}
 use Rattle.books.specs.declared.Book.{Book}
+use Rattle.books.specs.declared.Refusal.{Refusal}
 use Rattle.books.specs.Book.{zeroEntry, wordsOf}
+use Rattle.books.specs.Place.{refusalOf, numbered}
 use Rattle.books.specs.Tried.{sameNumbers}
+use Rattle.engines.specs.Edges.{broken, sameRefusal}
 use Rattle.xor.specs.Ten.{setupOf, popBackOf, popFrontOf}
-use Rattle.xor.specs.Moves.{Pool, poolLeft, numberGiven, poolAfter}
+use Rattle.xor.specs.Moves.{Pool, poolLeft, numberGiven, placeNamed, poolAfter}
 use Rattle.shapes.specs.Moves.{Move, check, askLength, pushBack, pushFront, popBack, popFront, readForward, readBackward, clear}
 
--- a call, and what it must give: the number, the value handed out, 0 for none, and every cell and word afterwards
+-- a call, and what it must give: the number with its place, the value handed out, 0 for none, and every cell and word afterwards
 pub record Turn : Type 0 where
   pub move : Move
-  pub number : ℕ
+  pub answer : Refusal
   pub value : ℕ
   pub left : Pool
 
@@ -39,7 +42,7 @@ twoLists head₀ tail₀ head₁ tail₁ free =
     }
 
 -- "One list, share 0": its limit, head and tail, and the free head
-abbrev oneList : ℕ → ℕ → ℕ → ℕ → Book
+abbrev pub oneList : ℕ → ℕ → ℕ → ℕ → Book
 oneList limit head tail free = record { lists = 1; entries = record { head = head; tail = tail; share = 0; limit = limit } ∷ replicate 7 zeroEntry; free = record { head = free } }
 
 -- ---- the pools as 01 gives them
@@ -84,7 +87,11 @@ abbrev pub p9 : Pool
 p9 = record { links = 0 ∷ 2 ∷ 0 ∷ 0 ∷ []; values = 0 ∷ 0 ∷ 0 ∷ 0 ∷ []; book = oneList 3 1 1 0 }
 
 abbrev turn : Move → ℕ → ℕ → Pool → Turn
-turn move number value left = record { move = move; number = number; value = value; left = left }
+turn move number value left = record { move = move; answer = numbered number; value = value; left = left }
+
+-- a call that names a broken rule with its list and position, and leaves everything
+abbrev named : Move → ℕ → ℕ → ℕ → Pool → Turn
+named move rule list position left = record { move = move; answer = broken rule list position; value = 0; left = left }
 
 -- setup as 01's pools have it, on slices that held other things
 abbrev accepted : Begin
@@ -112,8 +119,8 @@ marked =
     }
     -- P8: "sound"
     ∷ record { begin = with p8; turns = turn check 0 0 p8 ∷ [] }
-    -- P9: "3"
-    ∷ record { begin = with p9; turns = turn check 3 0 p9 ∷ [] }
+    -- P9: 3 in 01; from 02 b) on 11, list 0, position 2
+    ∷ record { begin = with p9; turns = named check 11 0 2 p9 ∷ [] }
     -- P10: "After P1, pop back on list 1: 5, value 0, pool and book the same"
     ∷ record { begin = accepted; turns = turn (popBack 1) 5 0 p1 ∷ [] }
     ∷ []
@@ -139,7 +146,7 @@ samePool s t = sameNumbers (s .links) (t .links) && (sameNumbers (s .values) (t 
 abbrev pub turnsPass : Pool → List Turn → Bool
 turnsPass st [] = true
 turnsPass st (t ∷ ts) =
-    eqb (numberGiven st (t .move)) (t .number) && (eqb (valueGiven st (t .move)) (t .value) && (samePool (poolAfter st (t .move)) (t .left) && turnsPass (poolAfter st (t .move)) ts))
+    sameRefusal (refusalOf (numberGiven st (t .move)) (placeNamed st (t .move))) (t .answer) && (eqb (valueGiven st (t .move)) (t .value) && (samePool (poolAfter st (t .move)) (t .left) && turnsPass (poolAfter st (t .move)) ts))
 
 abbrev pub casePasses : Begin → List Turn → Bool
 casePasses (bySetup links values lists shares limits must) ts =

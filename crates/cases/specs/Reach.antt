@@ -1,6 +1,6 @@
 -- Every number of every row is given by some call: for each, a pool and arguments that it is given on. And the traces on which 6 and 7 are reached.
 use mathlib.Core.Bool.{Bool, true, false, not, _&&_, _||_}
-use mathlib.Core.List.{List, [], _∷_, _++_}
+use mathlib.Core.List.{List, [], _∷_, _++_, map}
 use Prim.Native.Nat.{ℕ, zero, suc}
 use lib.Dec.{eqb}
 use lib.ListN.{replicate, take}
@@ -10,7 +10,7 @@ use Rattle.engines.specs.Rows.{rowOf}
 use Rattle.xor.specs.Moves.{Pool, numberGiven, PoolTrace}
 use Rattle.shapes.specs.Moves.{Move, check, askLength, pushBack, pushFront, popBack, popFront, readForward, readBackward, clear}
 use Rattle.shapes.specs.Ledger.{Ledger}
-use Rattle.cases.specs.Cases.{twoLists, p1, p3, p9}
+use Rattle.cases.specs.Cases.{twoLists, oneList, p1, p3, p9}
 
 -- a call by its row, and a number that it gives
 pub record Gives : Type 0 where
@@ -35,9 +35,21 @@ given st m = gives (rowOf m) (numberGiven st m)
 abbrev setUpWith : ℕ → ℕ → ℕ → Gives
 setUpWith n m lists = gives 0 (setupOf (replicate n 0) (replicate m 0) lists (2 ∷ 1 ∷ replicate 6 0) (5 ∷ 3 ∷ replicate 6 0) .answer .refusal .number)
 
--- 1, 3 and 4 of a call on list l, on a pool with a cell missing, on P9's and on P3's with a list that there is not
+-- a pool for each of 9 to 15: of two slots, but for P9
+abbrev brokenPools : List Pool
+brokenPools =
+    record { links = 0 ∷ 0 ∷ []; values = 0 ∷ 0 ∷ []; book = oneList 2 0 0 1 }
+    ∷ record { links = 1 ∷ 0 ∷ []; values = 0 ∷ 0 ∷ []; book = oneList 1 0 0 1 }
+    ∷ p9
+    ∷ record { links = 0 ∷ 1 ∷ []; values = 0 ∷ 0 ∷ []; book = oneList 1 0 0 1 }
+    ∷ record { links = 0 ∷ 0 ∷ []; values = 0 ∷ 0 ∷ []; book = oneList 1 0 0 0 }
+    ∷ record { links = 0 ∷ 0 ∷ []; values = 0 ∷ 1 ∷ []; book = oneList 1 0 0 1 }
+    ∷ record { links = 0 ∷ 0 ∷ []; values = 0 ∷ 5 ∷ []; book = oneList 0 1 1 0 }
+    ∷ []
+
+-- 1, 9 to 15 and 4 of a call on list l: on a pool with a cell missing, on these, and on P3's with a list that there is not
 abbrev refusals : (ℕ → Move) → List Gives
-refusals call = given uneven (call 0) ∷ given p9 (call 0) ∷ given p3 (call 2) ∷ []
+refusals call = given uneven (call 0) ∷ given p3 (call 2) ∷ map (λ st. given st (call 0)) brokenPools
 
 abbrev pub numbersTried : List Gives
 numbersTried =
@@ -46,7 +58,6 @@ numbersTried =
     ∷ setUpWith 6 6 0
     ∷ given p1 check
     ∷ given uneven check
-    ∷ given p9 check
     ∷ given p1 (askLength 0)
     ∷ given p1 (pushBack 0 20)
     ∷ given full (pushBack 1 14)
@@ -71,6 +82,7 @@ numbersTried =
     ++ refusals (λ l. readForward l (replicate 5 0) 0)
     ++ refusals (λ l. readBackward l (replicate 5 0) 0)
     ++ refusals clear
+    ++ map (λ st. given st check) brokenPools
 
 -- is the call shown to give the number?
 abbrev pub isShown : ℕ → ℕ → List Gives → Bool
@@ -87,7 +99,7 @@ numbersShown call (suc n) gs = same (mayGive call n) (isShown call n gs) && numb
 
 abbrev pub callsShown : ℕ → List Gives → Bool
 callsShown zero gs = true
-callsShown (suc m) gs = numbersShown m 9 gs && callsShown m gs
+callsShown (suc m) gs = numbersShown m 16 gs && callsShown m gs
 
 -- a trace of two lists, with the shares and limits of 01's pools
 abbrev pub twoListTrace : Pool → Ledger → Type 0

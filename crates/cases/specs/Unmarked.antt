@@ -13,6 +13,7 @@ use Rattle.shapes.specs.Moves.{askLength, pushBack, pushFront, popBack, popFron
 use Rattle.shapes.specs.Tests.{ReadLeft}
 use Rattle.xor.specs.Ten.{setupOf, readForwardOf, readBackwardOf}
 use Rattle.xor.specs.Moves.{Pool, poolLeft}
+use Rattle.books.specs.Place.{numbered}
 use Rattle.cases.specs.Cases.{Case, with, bySetup, p1, p3, samePool}
 
 -- ---- setup
@@ -140,9 +141,9 @@ cleared = record { links = six 0 4 1 2 5 0; values = six 0 0 0 0 0 0; book = one
 -- 01: "The slot's value becomes 0", whatever bits it had
 abbrev wipes : ℕ → List Case
 wipes v =
-    record { begin = with (held v); turns = record { move = popFront 0; number = 0; value = v; left = withoutFirst v } ∷ [] }
-    ∷ record { begin = with (held v); turns = record { move = popBack 0; number = 0; value = v; left = withoutLast v } ∷ [] }
-    ∷ record { begin = with (held v); turns = record { move = clear 0; number = 0; value = 0; left = cleared } ∷ [] }
+    record { begin = with (held v); turns = record { move = popFront 0; answer = numbered 0; value = v; left = withoutFirst v } ∷ [] }
+    ∷ record { begin = with (held v); turns = record { move = popBack 0; answer = numbered 0; value = v; left = withoutLast v } ∷ [] }
+    ∷ record { begin = with (held v); turns = record { move = clear 0; answer = numbered 0; value = 0; left = cleared } ∷ [] }
     ∷ []
 
 abbrev joinedCases : List (List Case) → List Case
@@ -155,14 +156,14 @@ noSuch l =
     record {
       begin = with p3;
       turns =
-          map (λ m. record { move = m; number = 4; value = 0; left = p3 })
+          map (λ m. record { move = m; answer = numbered 4; value = 0; left = p3 })
           (askLength l ∷ pushBack l 5 ∷ pushFront l 5 ∷ popBack l ∷ popFront l ∷ readForward l (six 1 2 3 4 5 6) 0 ∷ readBackward l (six 1 2 3 4 5 6) 0 ∷ clear l ∷ []);
     }
 
 abbrev pub notMarked : List Case
 notMarked =
     -- "Limit 0: every push gives 6"
-    record { begin = with limitNone; turns = record { move = pushBack 0 5; number = 6; value = 0; left = limitNone } ∷ record { move = pushFront 0 5; number = 6; value = 0; left = limitNone } ∷ [] }
+    record { begin = with limitNone; turns = record { move = pushBack 0 5; answer = numbered 6; value = 0; left = limitNone } ∷ record { move = pushFront 0 5; answer = numbered 6; value = 0; left = limitNone } ∷ [] }
     -- setup wipes every slot: "It ignores and overwrites what was there"
     ∷ record { begin = bySetup (replicate 6 65535) (replicate 6 allBits) 2 (pair 2 1) (pair 5 3) p1; turns = [] }
     ∷ map noSuch (2 ∷ 3 ∷ 4 ∷ 8 ∷ 9 ∷ 16 ∷ 256 ∷ 257 ∷ 4096 ∷ 32768 ∷ 65535 ∷ [])

@@ -16,7 +16,8 @@ use Rattle.xor.specs.Slot.{inPool}
 use Rattle.xor.specs.Slots.{takeOf, releaseOf}
 use Rattle.xor.specs.Steps.{isBeside, pushEmptyOf, pushBesideOf, pushOf, popOf}
 use Rattle.xor.specs.Engine.{freshLink}
-use Rattle.xor.specs.Edges.{lookNumber, edgesPass}
+use Rattle.engines.specs.Edges.{sound, broken}
+use Rattle.xor.specs.Edges.{lookAnswer, edgesPass}
 use Rattle.xor.specs.Bits.{freeHolds, liveHolds, nullHolds, oneBit, allThrough, slotsSaid, freshSaid}
 
 pub every-bit-asked : edgesPass oneBit ≡ true
@@ -38,18 +39,18 @@ fresh-links-tried = refl
 -- ---- of every number, and not of one bit alone
 
 -- 01: "every free slot's value is 0; slot 0 has link 0 and value 0": no other number passes; a live slot's value may be any
-pub no-free-value : (v : ℕ) → v ≢ 0 → lookNumber (freeHolds 3 0 v) ≡ 3
+pub no-free-value : (v : ℕ) → v ≢ 0 → lookAnswer (freeHolds (broken 14 0 1) 0 v) ≡ broken 14 0 1
 unfolding isFair isZero gather allZero keepsRules nothingMet gatherAll spareFault idleFault nullSlotZero poolFound checkFound sizesFit lookOf isMetOf markOf unmet walkOn walkable idlePath
-no-free-value v d = rw (lookNumber, ne-eqb v 0 d)
+no-free-value v d = rw (lookAnswer, ne-eqb v 0 d)
 
-pub no-null-value : (v : ℕ) → v ≢ 0 → lookNumber (nullHolds 0 v) ≡ 3
+pub no-null-value : (v : ℕ) → v ≢ 0 → lookAnswer (nullHolds 0 v) ≡ broken 10 0 0
 unfolding isFair isZero gather allZero keepsRules nothingMet gatherAll spareFault idleFault nullSlotZero poolFound checkFound sizesFit lookOf isMetOf markOf unmet walkOn walkable idlePath
-no-null-value v d = rw (lookNumber, ne-eqb v 0 d)
+no-null-value v d = rw (lookAnswer, ne-eqb v 0 d)
 
-pub no-null-link : (n : ℕ) → n ≢ 0 → lookNumber (nullHolds n 0) ≡ 3
+pub no-null-link : (n : ℕ) → n ≢ 0 → lookAnswer (nullHolds n 0) ≡ broken 10 0 0
 unfolding isFair isZero gather allZero keepsRules nothingMet gatherAll spareFault idleFault nullSlotZero poolFound checkFound sizesFit lookOf isMetOf markOf unmet walkOn walkable idlePath
-no-null-link n d = rw (lookNumber, ne-eqb n 0 d)
+no-null-link n d = rw (lookAnswer, ne-eqb n 0 d)
 
-pub any-live-value : (v : ℕ) → lookNumber (liveHolds 0 0 v) ≡ 0
+pub any-live-value : (v : ℕ) → lookAnswer (liveHolds sound 0 v) ≡ sound
 unfolding isFair isZero gather allZero keepsRules nothingMet gatherAll spareFault idleFault nullSlotZero poolFound checkFound sizesFit lookOf isMetOf markOf unmet walkOn walkable idlePath
 any-live-value v = refl

@@ -10,13 +10,13 @@ use Rattle.shapes.specs.Walk.{walkOn, walkable}
 use Rattle.shapes.specs.Faults.{nothingMet, spareFault, idleFault}
 use Rattle.engines.specs.Check.{sizesFit, idlePath, gatherAll, nullSlotZero, poolFound, checkFound, lookOf}
 use Rattle.xor.specs.Engine.{xor}
-use Rattle.xor.specs.Edges.{edges, edgesPass, brokenPools, placesFound}
+use Rattle.xor.specs.Edges.{edges, edgesPass, brokenPools}
 
 pub every-clause-asked : edgesPass edges ≡ true
 unfolding isFair isZero gather allZero keepsRules nothingMet gatherAll spareFault idleFault nullSlotZero poolFound checkFound sizesFit lookOf isMetOf markOf unmet walkOn walkable idlePath
 every-clause-asked = refl
 
-pub first-fault-tried : placesFound brokenPools ≡ true
+pub first-fault-tried : edgesPass brokenPools ≡ true
 unfolding isFair isZero gather allZero keepsRules nothingMet gatherAll spareFault idleFault nullSlotZero poolFound checkFound sizesFit lookOf isMetOf markOf unmet walkOn walkable idlePath
 first-fault-tried = refl
 

@@ -10,10 +10,12 @@ pub mod Pools
 pub mod Fresh
 pub mod Lawful
 pub mod Page
+pub mod BrokenPage
 pub mod Plain
 pub mod OneResult
 pub mod Cells
 pub mod Edges
+pub mod BrokenTried
 pub mod Bits
 pub mod Tried
 pub mod Traces

@@ -5,16 +5,19 @@ use mathlib.Core.List.{List, [], _∷_, _++_, reverse}
 use Prim.Native.Nat.{ℕ, _<_}
 use lib.ListN.{length, take, drop}
 use Rattle.books.specs.declared.Book.{Book}
+use Rattle.books.specs.Place.{Place}
 use Rattle.books.specs.Book.{mostLists, AnyBook, eight, bookOf}
 use Rattle.shapes.specs.declared.End.the-variants.{Front, Back}
 use Rattle.shapes.specs.Moves.{Move, pushBack, pushFront, popBack, popFront, clear}
-use Rattle.engines.specs.Moves.{State, after, View}
+use Rattle.engines.specs.Moves.{State, placeGiven, after, View}
+use Rattle.engines.specs.Named.{NamesFault}
+use Rattle.engines.proofs.Named.{names-fault}
 use Rattle.engines.proofs.Upstream as U
 use Rattle.engines.proofs.Directly.{backward-reversed, setup-ignores}
 use Rattle.xor.specs.Engine.{xor}
 use Rattle.xor.specs.Ten.{setupOf, pushBackOf, pushFrontOf, popBackOf, popFrontOf, readForwardOf, readBackwardOf, clearOf}
-use Rattle.xor.specs.Moves.{Pool, stateOf, poolLeft, poolPopped, poolAfter}
-use Rattle.xor.proofs.Plain.{setup-left, after-told}
+use Rattle.xor.specs.Moves.{Pool, stateOf, poolLeft, poolPopped, numberGiven, placeNamed, poolAfter}
+use Rattle.xor.proofs.Plain.{setup-left, number-told, place-told, after-told}
 use Rattle.xor.proofs.Lawful.{xor-lawful}
 
 -- list l of the pool holds the values vs
@@ -77,3 +80,9 @@ pub setup-overwrites : (links links′ values values′ : List ℕ) (lists : ℕ
 setup-overwrites links links′ values values′ lists shares limits size many =
     let (n, b, c) = setup-ignores xor-lawful mostLists links values lists shares limits links′ values′ refl size many in
     (n, ap (λ (x : AnyBook). bookOf x) b, c)
+
+-- ---- 02 b)
+
+-- each of the nine calls by name names the first rule that is broken, with its place
+pub named-fault : (p : Pool) (m : Move) → NamesFault xor (stateOf p) (numberGiven p m) (placeNamed p m)
+named-fault p m = subst (λ (place : Place). NamesFault xor (stateOf p) (numberGiven p m) place) (sym (place-told p m)) (subst (λ (n : ℕ). NamesFault xor (stateOf p) n (placeGiven xor (stateOf p) m)) (sym (number-told p m)) (names-fault xor-lawful (stateOf p) m))

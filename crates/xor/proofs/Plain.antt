@@ -4,23 +4,24 @@ use mathlib.Core.List.{List}
 use Prim.Native.Nat.{ℕ}
 use Rattle.books.specs.declared.Book.{Book}
 use Rattle.books.specs.Book.{mostLists, AnyBook, eight, bookOf}
+use Rattle.books.specs.Place.{placeIn}
 use Rattle.shapes.specs.declared.End.{End}
 use Rattle.shapes.specs.declared.End.the-variants.{Front, Back}
 use Rattle.shapes.specs.Moves.{Move, check, askLength, pushBack, pushFront, popBack, popFront, readForward, readBackward, clear}
 use Rattle.shapes.proofs.Numbers.{decided-ind}
 use Rattle.engines.specs.Calls.{Called, setupTests, listTests, pushTests, popTests, setupCall, checkCall, lengthCall, pushCall, popCall, readCall, clearCall}
-use Rattle.engines.specs.Moves.{left, numberOf, after}
+use Rattle.engines.specs.Moves.{left, numberOf, placeGiven, after}
 use Rattle.xor.specs.Engine.{xor}
 use Rattle.xor.specs.Ten.{asAnswer, asPopped, setupOf, checkOf, lengthOf, pushBackOf, pushFrontOf, popBackOf, popFrontOf, readForwardOf, readBackwardOf, clearOf}
-use Rattle.xor.specs.Moves.{Pool, stateOf, poolLeft, numberGiven, poolAfter}
+use Rattle.xor.specs.Moves.{Pool, stateOf, poolLeft, numberGiven, placeNamed, poolAfter}
 
 module _ (r : Called xor) where
-  pub answer-plain : (asAnswer r .answer .refusal .number ≡ r .number) × (asAnswer r .answer .book ≡ bookOf (r .book)) × (asAnswer r .links ≡ r .links) × (asAnswer r .values ≡ r .values)
-  answer-plain = (refl, refl, refl, refl)
+  pub answer-plain : (asAnswer r .answer .refusal .number ≡ r .number) × (placeIn (asAnswer r .answer .refusal) ≡ r .place) × (asAnswer r .answer .book ≡ bookOf (r .book)) × (asAnswer r .links ≡ r .links) × (asAnswer r .values ≡ r .values)
+  answer-plain = (refl, refl, refl, refl, refl)
 
-  pub popped-plain : (asPopped r .answer .given .refusal .number ≡ r .number) × (asPopped r .answer .given .value ≡ r .value)
+  pub popped-plain : (asPopped r .answer .given .refusal .number ≡ r .number) × (placeIn (asPopped r .answer .given .refusal) ≡ r .place) × (asPopped r .answer .given .value ≡ r .value)
       × (asPopped r .answer .book ≡ bookOf (r .book)) × (asPopped r .links ≡ r .links) × (asPopped r .values ≡ r .values)
-  popped-plain = (refl, refl, refl, refl, refl)
+  popped-plain = (refl, refl, refl, refl, refl, refl)
 
 -- ---- each name of Ten.antt is the call over the XOR engine on the book of eight, so that what is proved of that holds of it
 
@@ -101,6 +102,18 @@ number-told p (popFront l) = refl
 number-told p (readForward l buffer at) = refl
 number-told p (readBackward l buffer at) = refl
 number-told p (clear l) = refl
+
+-- and so is its place
+pub place-told : (p : Pool) (m : Move) → placeNamed p m ≡ placeGiven xor (stateOf p) m
+place-told p check = refl
+place-told p (askLength l) = refl
+place-told p (pushBack l value) = refl
+place-told p (pushFront l value) = refl
+place-told p (popBack l) = refl
+place-told p (popFront l) = refl
+place-told p (readForward l buffer at) = refl
+place-told p (readBackward l buffer at) = refl
+place-told p (clear l) = refl
 
 -- and so is what it leaves
 pub after-told : (p : Pool) (m : Move) → stateOf (poolAfter p m) ≡ after xor (stateOf p) m

@@ -9,6 +9,7 @@ use Rattle.books.specs.declared.Book.{Book}
 use Rattle.books.specs.declared.Answer.{Answer}
 use Rattle.books.specs.declared.Popped.{Popped}
 use Rattle.books.specs.Book.{AnyBook, bookOf}
+use Rattle.books.specs.Place.{refusalOf}
 use Rattle.books.specs.Outcome.{Outcome, outcome}
 use Rattle.shapes.specs.declared.End.{End}
 use Rattle.shapes.specs.declared.End.the-variants.{Front, Back}
@@ -45,12 +46,12 @@ module _ (links values : List ℕ) (b : Book) (l : ℕ) where
   taken : {value : ℕ} (end : End) (m : Move) → Undone xor (stateOf p) value (popAt xor (after xor (stateOf p) m) end l) → TakenBack links values b value (asPopped (popAt xor (stateOf (poolAfter p m)) end l))
   taken {value} end m U =
       let W = subst (λ (st : State xor). Undone xor (stateOf p) value (popAt xor st end l)) (sym (after-told p m)) U in
-      record { number = W .number; handed = W .handed; restored = as-before W }
+      record { number = W .number; unplaced = W .unplaced; handed = W .handed; restored = as-before W }
 
   put : (value : ℕ) (end : End) (m : Move) → Undone xor (stateOf p) 0 (pushAt xor (after xor (stateOf p) m) end l value) → PutBack links values b (asAnswer (pushAt xor (stateOf (poolAfter p m)) end l value))
   put value end m U =
       let W = subst (λ (st : State xor). Undone xor (stateOf p) 0 (pushAt xor st end l value)) (sym (after-told p m)) U in
-      record { number = W .number; restored = as-before W }
+      record { number = W .number; unplaced = W .unplaced; restored = as-before W }
 
   pub push-back-undone : (value : ℕ) → let r = pushBackOf links values b l value in
       r .answer .refusal .number ≡ 0 → TakenBack links values b value (popBackOf (r .links) (r .values) (r .answer .book) l)
@@ -86,12 +87,12 @@ module _ {links values : List ℕ} {b : Book} where
   pub taken-back-one : {value : ℕ} {r r′ : Outcome Popped} → TakenBack links values b value r → TakenBack links values b value r′ → r ≡ r′
   taken-back-one P Q =
       let e = as-before-one (P .restored) (Q .restored) in
-      λ i. outcome (record { given = record { refusal = record { number = (P .number ∙ sym (Q .number)) i }; value = (P .handed ∙ sym (Q .handed)) i }; book = e i .book }) (e i .links) (e i .values)
+      λ i. outcome (record { given = record { refusal = refusalOf ((P .number ∙ sym (Q .number)) i) ((P .unplaced ∙ sym (Q .unplaced)) i); value = (P .handed ∙ sym (Q .handed)) i }; book = e i .book }) (e i .links) (e i .values)
 
   pub put-back-one : {r r′ : Outcome Answer} → PutBack links values b r → PutBack links values b r′ → r ≡ r′
   put-back-one P Q =
       let e = as-before-one (P .restored) (Q .restored) in
-      λ i. outcome (record { refusal = record { number = (P .number ∙ sym (Q .number)) i }; book = e i .book }) (e i .links) (e i .values)
+      λ i. outcome (record { refusal = refusalOf ((P .number ∙ sym (Q .number)) i) ((P .unplaced ∙ sym (Q .unplaced)) i); book = e i .book }) (e i .links) (e i .values)
 
 -- ---- the weaker law of each
 

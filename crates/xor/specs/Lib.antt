@@ -6,6 +6,7 @@ pub mod Steps
 pub mod StepDone
 pub mod Engine
 pub mod Sound
+pub mod Broken
 pub mod Ten
 pub mod Along
 pub mod ClearDone

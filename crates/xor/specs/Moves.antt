@@ -7,6 +7,7 @@ use lib.Dec.{eqb}
 use Rattle.books.specs.declared.Book.{Book}
 use Rattle.books.specs.declared.Answer.{Answer}
 use Rattle.books.specs.declared.Popped.{Popped}
+use Rattle.books.specs.Place.{Place, placeIn}
 use Rattle.books.specs.Book.{eight}
 use Rattle.books.specs.Outcome.{Outcome}
 use Rattle.shapes.specs.Moves.{Move, check, askLength, pushBack, pushFront, popBack, popFront, readForward, readBackward, clear}
@@ -43,6 +44,18 @@ numberGiven p (popFront l) = popFrontOf (p .links) (p .values) (p .book) l .answ
 numberGiven p (readForward l buffer at) = readForwardOf (p .links) (p .values) (p .book) l buffer at .answer .refusal .number
 numberGiven p (readBackward l buffer at) = readBackwardOf (p .links) (p .values) (p .book) l buffer at .answer .refusal .number
 numberGiven p (clear l) = clearOf (p .links) (p .values) (p .book) l .answer .refusal .number
+
+-- the place that goes with it
+abbrev pub placeNamed : Pool → Move → Place
+placeNamed p check = placeIn (checkOf (p .links) (p .values) (p .book))
+placeNamed p (askLength l) = placeIn (lengthOf (p .links) (p .values) (p .book) l .refusal)
+placeNamed p (pushBack l value) = placeIn (pushBackOf (p .links) (p .values) (p .book) l value .answer .refusal)
+placeNamed p (pushFront l value) = placeIn (pushFrontOf (p .links) (p .values) (p .book) l value .answer .refusal)
+placeNamed p (popBack l) = placeIn (popBackOf (p .links) (p .values) (p .book) l .answer .given .refusal)
+placeNamed p (popFront l) = placeIn (popFrontOf (p .links) (p .values) (p .book) l .answer .given .refusal)
+placeNamed p (readForward l buffer at) = placeIn (readForwardOf (p .links) (p .values) (p .book) l buffer at .answer .refusal)
+placeNamed p (readBackward l buffer at) = placeIn (readBackwardOf (p .links) (p .values) (p .book) l buffer at .answer .refusal)
+placeNamed p (clear l) = placeIn (clearOf (p .links) (p .values) (p .book) l .answer .refusal)
 
 -- what the call leaves. Check, length and the reads are lent the slices to read alone, and return no book
 abbrev pub poolAfter : Pool → Move → Pool

@@ -8,6 +8,7 @@ use Rattle.books.specs.declared.Popped.{Popped}
 use Rattle.books.specs.declared.Length.{Length}
 use Rattle.books.specs.Book.{mostLists, eight, bookOf}
 use Rattle.books.specs.Outcome.{Outcome, outcome}
+use Rattle.books.specs.Place.{refusalOf}
 use Rattle.shapes.specs.declared.End.the-variants.{Front, Back}
 use Rattle.shapes.specs.Tests.{ReadLeft}
 use Rattle.engines.specs.Calls.{Called, setupCall, checkCall, lengthCall, pushCall, popCall, clearCall, readCall}
@@ -15,10 +16,10 @@ use Rattle.xor.specs.Engine.{xor}
 
 -- the answers of the book of eight entries, with both slices
 abbrev pub asAnswer : Called xor → Outcome Answer
-asAnswer r = outcome (record { refusal = record { number = r .number }; book = bookOf (r .book) }) (r .links) (r .values)
+asAnswer r = outcome (record { refusal = refusalOf (r .number) (r .place); book = bookOf (r .book) }) (r .links) (r .values)
 
 abbrev pub asPopped : Called xor → Outcome Popped
-asPopped r = outcome (record { given = record { refusal = record { number = r .number }; value = r .value }; book = bookOf (r .book) }) (r .links) (r .values)
+asPopped r = outcome (record { given = record { refusal = refusalOf (r .number) (r .place); value = r .value }; book = bookOf (r .book) }) (r .links) (r .values)
 
 module _ (links values : List ℕ) where
   abbrev pub setupOf : ℕ → List ℕ → List ℕ → Outcome Answer

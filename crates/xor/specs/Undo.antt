@@ -6,6 +6,7 @@ use Rattle.books.specs.declared.Book.{Book}
 use Rattle.books.specs.declared.Answer.{Answer}
 use Rattle.books.specs.declared.Popped.{Popped}
 use Rattle.books.specs.Outcome.{Outcome}
+use Rattle.books.specs.Place.{noPlace, placeIn}
 use Rattle.shapes.specs.declared.End.{End}
 use Rattle.shapes.specs.declared.End.the-variants.{Front, Back}
 use Rattle.shapes.specs.Moves.{Move}
@@ -25,12 +26,14 @@ module _ (links values : List ℕ) (b : Book) where
   -- the pop that follows a push: it is done, hands out the value that was pushed, and leaves all as before the push
   pub record TakenBack (value : ℕ) (r : Outcome Popped) : Type 0 where
     pub number : r .answer .given .refusal .number ≡ 0
+    pub unplaced : placeIn (r .answer .given .refusal) ≡ noPlace
     pub handed : r .answer .given .value ≡ value
     pub restored : AsBefore (poolPopped r)
 
   -- the push that follows a pop: it is done, and leaves all as before the pop
   pub record PutBack (r : Outcome Answer) : Type 0 where
     pub number : r .answer .refusal .number ≡ 0
+    pub unplaced : placeIn (r .answer .refusal) ≡ noPlace
     pub restored : AsBefore (poolLeft r)
 
   -- the weaker law of each: it is done, and each list's sequence of values, each length and the number of free slots are as before
