@@ -17,7 +17,7 @@ use Rattle.xor.specs.Engine.{xor}
 use Rattle.books.specs.Words.{bookFrom}
 use Rattle.faces.specs.Words.{kept}
 use Rattle.faces.specs.Face.{asChanged, asHanded, setupFace, checkFace, lengthFace, pushBackFace, pushFrontFace, popBackFace, popFrontFace, readForwardFace, readBackwardFace, clearFace}
-use Rattle.faces.specs.Meaning.{SameChange, SamePop, SameLength, SameRead, NotChanged, NotPopped, NotRead}
+use Rattle.faces.specs.Meaning.{SameSetup, SameCheck, SameChange, SamePop, SameLength, SameRead, NotPrepared, NotChanged, NotPopped, NotRead}
 use Rattle.books.proofs.Flat.{words-kept}
 use Rattle.faces.proofs.Kept.{kept-done, kept-refused}
 
@@ -37,10 +37,10 @@ module _ (links values words : List ℕ) (h : length words ≡ 34) where
     back d = ap bookOf (f d .sameBook)
 
     change-same : SameChange (asAnswer r) (asChanged words (asAnswer r))
-    change-same = record { sameNumber = refl; sameBook = same-words _ _ back; sameLinks = refl; sameValues = refl }
+    change-same = record { sameNumber = refl; samePlace = refl; sameBook = same-words _ _ back; sameLinks = refl; sameValues = refl }
 
     pop-same : SamePop (asPopped r) (asHanded words (asPopped r))
-    pop-same = record { sameNumber = refl; sameValue = refl; sameBook = same-words _ _ back; sameLinks = refl; sameValues = refl }
+    pop-same = record { sameNumber = refl; samePlace = refl; sameValue = refl; sameBook = same-words _ _ back; sameLinks = refl; sameValues = refl }
 
 module _ (links values words : List ℕ) (r : Called xor) (f : r .number ≢ 0 → Refused xor links values (eight (bookFrom words)) r) where
   change-not : asChanged words (asAnswer r) .answer .number ≢ 0 → NotChanged links values words (asChanged words (asAnswer r))
@@ -58,23 +58,23 @@ module _ (links values : List ℕ) where
     face-setup-number = refl
 
     pub setup-same : setupFace links values lists shares limits words .answer .number ≡ 0
-        → SameChange (setupOf links values lists shares limits) (setupFace links values lists shares limits words)
+        → SameSetup (setupOf links values lists shares limits) (setupFace links values lists shares limits words)
     setup-same e = record { sameNumber = refl; sameBook = kept-done _ words _ e; sameLinks = refl; sameValues = refl }
 
-    pub face-setup-refused : setupFace links values lists shares limits words .answer .number ≢ 0 → NotChanged links values words (setupFace links values lists shares limits words)
+    pub face-setup-refused : setupFace links values lists shares limits words .answer .number ≢ 0 → NotPrepared links values words (setupFace links values lists shares limits words)
     face-setup-refused d =
         let R = setup-refused xor mostLists links values lists shares limits d in
         record { bookStays = kept-refused _ words _ d; linksStay = R .sameLinks; valuesStay = R .sameValues }
 
-  pub check-same : (words : List ℕ) → checkFace links values words ≡ checkOf links values (bookFrom words) .number
-  check-same words = refl
+  pub check-same : (words : List ℕ) → SameCheck (checkOf links values (bookFrom words)) (checkFace links values words)
+  check-same words = record { sameNumber = refl; samePlace = refl }
 
   module _ (words : List ℕ) (l : ℕ) where
     abbrev b : AnyBook
     b = eight (bookFrom words)
 
     pub length-same : SameLength (lengthOf links values (bookFrom words) l) (lengthFace links values words l)
-    length-same = record { sameNumber = refl; sameLength = refl }
+    length-same = record { sameNumber = refl; samePlace = refl; sameLength = refl }
 
     pub face-length-refused : lengthFace links values words l .number ≢ 0 → lengthFace links values words l .length ≡ 0
     face-length-refused = length-refused xor links values b l
@@ -112,10 +112,10 @@ module _ (links values : List ℕ) where
 
     module _ (buffer : List ℕ) (at : ℕ) where
       pub read-forward-same : SameRead (readForwardOf links values (bookFrom words) l buffer at) (readForwardFace links values words l buffer at)
-      read-forward-same = record { sameNumber = refl; sameCount = refl; sameBuffer = refl }
+      read-forward-same = record { sameNumber = refl; samePlace = refl; sameCount = refl; sameBuffer = refl }
 
       pub read-backward-same : SameRead (readBackwardOf links values (bookFrom words) l buffer at) (readBackwardFace links values words l buffer at)
-      read-backward-same = record { sameNumber = refl; sameCount = refl; sameBuffer = refl }
+      read-backward-same = record { sameNumber = refl; samePlace = refl; sameCount = refl; sameBuffer = refl }
 
       pub face-read-forward-refused : readForwardFace links values words l buffer at .number ≢ 0 → NotRead buffer (readForwardFace links values words l buffer at)
       face-read-forward-refused d =

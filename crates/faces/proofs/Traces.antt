@@ -9,6 +9,7 @@ use lib.Dec.{eqb}
 use lib.ListN.{length, take, drop, length-set}
 use Rattle.books.specs.declared.Book.{Book}
 use Rattle.books.specs.declared.Entry.{Entry}
+use Rattle.books.specs.Place.{Place, noPlace, placeIn}
 use Rattle.books.specs.Book.{mostLists, AnyBook, eight, wordsOf, entryAt}
 use Rattle.books.specs.Words.{bookFrom, entryFrom, entriesFrom}
 use Rattle.books.proofs.Flat.{words-length, book-kept, entry-read, entries-many}
@@ -25,6 +26,8 @@ use Rattle.engines.specs.Sound.{SoundBook}
 use Rattle.engines.specs.Calls.{Called, listTests, pushTests, popTests, pushCall, popCall, clearCall, readCall}
 use Rattle.engines.specs.Moves.{View}
 use Rattle.engines.specs.Trace.{Demand3}
+use Rattle.engines.specs.Named.{NamesFault}
+use Rattle.engines.proofs.Named.{names-fault, read-names, names-none}
 use Rattle.engines.proofs.Shape.{unique-book}
 use Rattle.engines.proofs.Steps.{joined-one}
 use Rattle.shapes.proofs.Ends.{length-joined}
@@ -34,13 +37,15 @@ use Rattle.engines.proofs.Exactly.{push-else, length-zero, clear-zero, pop-zero
 use Rattle.engines.proofs.Upstream.{as-long, length-is, pop-takes, pop-five-exactly, read-is}
 use Rattle.xor.specs.Engine.{xor}
 use Rattle.xor.specs.Ten.{setupOf}
-use Rattle.xor.specs.Moves.{Pool, stateOf, poolAfter, numberGiven, PoolTrace, begun, called}
+use Rattle.xor.specs.Moves.{Pool, stateOf, poolAfter, numberGiven, placeNamed, PoolTrace, begun, called}
 use Rattle.xor.proofs.Lawful.{xor-lawful}
 use Rattle.xor.proofs.Plain.{number-told}
 use Rattle.xor.proofs.Page.{page-told}
+use Rattle.xor.proofs.Named.{named-fault}
 use Rattle.xor.proofs.Traces.{demand-3-named}
 use Rattle.faces.specs.Face.{asShown, told, shown, setupFace}
-use Rattle.faces.specs.Trace.{Memory, memoryChanged, returned, memoryAfter, notedFor, FaceTrace, started, continued, FaceDemand3, FaceList}
+use Rattle.faces.specs.Undo.{stateIn}
+use Rattle.faces.specs.Trace.{Memory, memoryPrepared, returned, placeWritten, memoryAfter, notedFor, FaceTrace, started, continued, FaceDemand3, FaceList}
 use Rattle.faces.proofs.Kept.{kept-done}
 use Rattle.faces.proofs.Exact.{push-back-same, push-front-same, pop-back-same, pop-front-same, clear-same}
 
@@ -128,6 +133,24 @@ returned-told m (readForward l buffer at) = refl
 returned-told m (readBackward l buffer at) = refl
 returned-told m (clear l) = refl
 
+-- and so is the place
+written-told : (m : Memory) (move : Move) → placeWritten m move ≡ placeNamed (poolOf m) move
+written-told m check = refl
+written-told m (askLength l) = refl
+written-told m (pushBack l value) = refl
+written-told m (pushFront l value) = refl
+written-told m (popBack l) = refl
+written-told m (popFront l) = refl
+written-told m (readForward l buffer at) = refl
+written-told m (readBackward l buffer at) = refl
+written-told m (clear l) = refl
+
+-- 02 b): every C function but setup returns the first rule broken, and writes its list and position
+pub face-names-fault : (m : Memory) (move : Move) → NamesFault xor (stateIn m) (returned m move) (placeWritten m move)
+face-names-fault m move =
+    subst (λ (place : Place). NamesFault xor (stateIn m) (returned m move) place) (sym (written-told m move))
+    (subst (λ (n : ℕ). NamesFault xor (stateIn m) n (placeNamed (poolOf m) move)) (sym (returned-told m move)) (named-fault (poolOf m) move))
+
 -- ---- a trace of the C functions is a trace of the ten calls by name
 
 module _ {lists : ℕ} {shares limits : List ℕ} where
@@ -165,23 +188,26 @@ module _ (m : Memory) {s : Shape} (S : SoundBook xor (m .links) (m .values) (eig
     abbrev reading : ReadLeft
     reading = readCall xor (m .links) (m .values) (eight (bookFrom (m .words))) l end buffer at
 
+    nowhere : placeIn (reading .answer .refusal) ≡ noPlace
+    nowhere = names-none S (read-names xor-lawful (stateIn m) l end buffer at)
+
     -- a read that fits, and one that does not
-    fitting : at + length vs ≤ length buffer → asShown reading ≡ shown 0 (length vs) (take at buffer ++ fromEnd end vs ++ drop (at + length vs) buffer)
+    fitting : at + length vs ≤ length buffer → asShown reading ≡ shown 0 noPlace (length vs) (take at buffer ++ fromEnd end vs ++ drop (at + length vs) buffer)
     fitting h =
         let z = read-zero xor-lawful S l below end buffer at .1 (⊎-elim (λ k. omega arith) (λ k. omega (arith, as-many))) in
         let (n, e) = read-is xor-lawful H end buffer at z in
-        λ i. record { number = z i; count = n i; buffer = e i }
+        λ i. record { number = z i; place = nowhere i; count = n i; buffer = e i }
 
-    lacking : length buffer < at + length vs → asShown reading ≡ shown 8 0 buffer
+    lacking : length buffer < at + length vs → asShown reading ≡ shown 8 noPlace 0 buffer
     lacking h =
         let z = read-eight xor-lawful S l below end buffer at .1 (inr (omega (arith, as-many))) in
         let R = read-refused xor (m .links) (m .values) (eight (bookFrom (m .words))) l end buffer at (λ e. omega arith) in
-        λ i. record { number = z i; count = R .noCount i; buffer = R .sameBuffer i }
+        λ i. record { number = z i; place = nowhere i; count = R .noCount i; buffer = R .sameBuffer i }
 
   face-list : FaceList m s l vs
   face-list =
       record {
-        asLong = let z = length-zero xor-lawful S l below in λ i. record { number = z i; length = length-is xor-lawful H z i };
+        asLong = let z = length-zero xor-lawful S l below in λ i. record { number = z i; place = names-none S (names-fault xor-lawful (stateIn m) (askLength l)) i; length = length-is xor-lawful H z i };
         last = taken Back;
         first = taken Front;
         five = (pop-five-exactly xor-lawful H Back .1, pop-five-exactly xor-lawful H Front .1);
@@ -219,8 +245,9 @@ demand-3-of-c {lists} {shares} {limits} {m} {ledger} t =
           six = D .six;
           seven = D .seven;
           taken = λ l value b. (push-else xor-lawful (D .sound) l (omega (arith, D .asMany)) Back value, push-else xor-lawful (D .sound) l (omega (arith, D .asMany)) Front value);
-          checked = check-accepts xor-lawful (m .links) (m .values) (eight (bookFrom (m .words))) .1 (s, D .sound);
-          never = λ move. let e = returned-told m move ∙ number-told (poolOf m) move in (λ z. D .never move .0 (sym e ∙ z), λ z. D .never move .1 (sym e ∙ z));
+          accepted = check-accepts xor-lawful (m .links) (m .values) (eight (bookFrom (m .words))) .1 (s, D .sound);
+          never = λ move. let e = returned-told m move ∙ number-told (poolOf m) move in (λ z. D .never move .0 (sym e ∙ z), λ k lo hi z. D .never move .1 k lo hi (sym e ∙ z));
+          nowhere = λ move. names-none (D .sound) (face-names-fault m move);
         }
       where
         there : (l : ℕ) → l < lists → entryAt (entriesFrom (m .words)) l ≡ entryFrom (m .words) l
@@ -229,7 +256,7 @@ demand-3-of-c {lists} {shares} {limits} {m} {ledger} t =
 -- ---- a trace may begin with any accepted setup, whatever words it is lent, and go on with any of the nine calls
 
 pub any-face-setup : (links values words : List ℕ) (lists : ℕ) (shares limits : List ℕ) → setupFace links values lists shares limits words .answer .number ≡ 0
-    → FaceTrace lists shares limits (memoryChanged (setupFace links values lists shares limits words)) nothingNoted
+    → FaceTrace lists shares limits (memoryPrepared (setupFace links values lists shares limits words)) nothingNoted
 any-face-setup links values words lists shares limits z = started links values words z
 
 pub any-face-call : {lists : ℕ} {shares limits : List ℕ} {m : Memory} {ledger : Ledger} → FaceTrace lists shares limits m ledger → (move : Move)

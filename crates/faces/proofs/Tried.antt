@@ -23,7 +23,7 @@ use Rattle.xor.specs.Slot.{inPool}
 use Rattle.faces.specs.Words.{kept}
 use Rattle.faces.specs.Version.{faceVersion}
 use Rattle.faces.specs.Trace.{Memory, returned, FaceTrace, started, continued}
-use Rattle.faces.specs.Tried.{cP1, cP2, cSetups, cSetupsPass, cTurns, cDamaged, cRefused, cUndone, cFull, cAtLimit, cUndoneHands, cTurnsPass, notedFrom, notes, cAnswersPass}
+use Rattle.faces.specs.Tried.{cP1, cP2, cSetups, cSetupsPass, cTurns, cDamaged, cRefused, cBrokenPools, cBrokenPass, cUndone, cFull, cAtLimit, cUndoneHands, cTurnsPass, notedFrom, notes, cAnswersPass}
 
 pub c-setups-tried : cSetupsPass cSetups ≡ true
 unfolding tabulate isFair isZero gather allZero keepsRules sizesFit decided freshLink freshValue setupCall kept
@@ -36,6 +36,11 @@ c-turns-tried = refl
 pub c-refused-tried : cTurnsPass cDamaged cRefused ≡ true
 unfolding tabulate isFair isZero gather allZero keepsRules nothingMet gatherAll spareFault idleFault nullSlotZero poolFound checkFound sizesFit decided isMetOf markOf unmet walkOn walkable idlePath kept nearOf withNear isBeside pushEmptyOf pushBesideOf pushOf popOf takeOf releaseOf inPool checkCall lengthCall pushCall popCall clearCall clearOn readCall isSlot valuesAlong
 c-refused-tried = refl
+
+-- 02 b): each of 9 to 15, with its list and position, of all nine functions
+pub c-broken-tried : cBrokenPass cBrokenPools ≡ true
+unfolding tabulate isFair isZero gather allZero keepsRules nothingMet gatherAll spareFault idleFault nullSlotZero poolFound checkFound sizesFit decided isMetOf markOf unmet walkOn walkable idlePath kept nearOf withNear isBeside pushEmptyOf pushBesideOf pushOf popOf takeOf releaseOf inPool checkCall lengthCall pushCall popCall clearCall clearOn readCall isSlot valuesAlong
+c-broken-tried = refl
 
 pub c-undone-tried : (cTurnsPass cP2 cUndone ≡ true) × (cTurnsPass cFull cAtLimit ≡ true) × (cUndoneHands ≡ true)
 unfolding tabulate isFair isZero gather allZero keepsRules nothingMet gatherAll spareFault idleFault nullSlotZero poolFound checkFound sizesFit decided isMetOf markOf unmet walkOn walkable idlePath kept nearOf withNear isBeside pushEmptyOf pushBesideOf pushOf popOf takeOf releaseOf inPool checkCall lengthCall pushCall popCall clearCall clearOn readCall isSlot valuesAlong
@@ -56,7 +61,7 @@ unfolding tabulate isFair isZero gather allZero keepsRules nothingMet gatherAll 
 c-answers-tried = refl
 
 -- include/flailreeve.h says the same number
-pub version-is : faceVersion ≡ 1
+pub version-is : faceVersion ≡ 2
 version-is = refl
 
 -- there are traces: three pushes on list 1, whose limit is three, begun on words of which there are none

@@ -44,10 +44,10 @@ module _ (links values words : List ℕ) (h : length words ≡ 34) (l : ℕ) whe
   back number lent z A = record { sameLinks = A .sameLinks; sameValues = A .sameValues; sameWords = kept-done number lent _ z ∙ ap wordsOf (A .sameBook) ∙ words-kept words h }
 
   taken : {value : ℕ} (lent : List ℕ) (r : Outcome Popped) → TakenBack links values (bookFrom words) value r → FaceTakenBack links values words value (asHanded lent r)
-  taken lent r T = record { number = T .number; handed = T .handed; restored = back _ lent (T .number) (T .restored) }
+  taken lent r T = record { number = T .number; unplaced = T .unplaced; handed = T .handed; restored = back _ lent (T .number) (T .restored) }
 
   put : (lent : List ℕ) (r : Outcome Answer) → PutBack links values (bookFrom words) r → FacePutBack links values words (asChanged lent r)
-  put lent r T = record { number = T .number; restored = back _ lent (T .number) (T .restored) }
+  put lent r T = record { number = T .number; unplaced = T .unplaced; restored = back _ lent (T .number) (T .restored) }
 
   pub face-push-back-undone : (value : ℕ) → let r = pushBackFace links values words l value in
       r .answer .number ≡ 0 → FaceTakenBack links values words value (popBackFace (r .links) (r .values) (r .answer .book) l)
@@ -131,12 +131,12 @@ module _ {links values words : List ℕ} where
   pub face-taken-back-one : {value : ℕ} {r r′ : Outcome Handed} → FaceTakenBack links values words value r → FaceTakenBack links values words value r′ → r ≡ r′
   face-taken-back-one P Q =
       let e = memory-before-one (P .restored) (Q .restored) in
-      λ i. outcome (handed ((P .number ∙ sym (Q .number)) i) ((P .handed ∙ sym (Q .handed)) i) (e i .words)) (e i .links) (e i .values)
+      λ i. outcome (handed ((P .number ∙ sym (Q .number)) i) ((P .unplaced ∙ sym (Q .unplaced)) i) ((P .handed ∙ sym (Q .handed)) i) (e i .words)) (e i .links) (e i .values)
 
   pub face-put-back-one : {r r′ : Outcome Changed} → FacePutBack links values words r → FacePutBack links values words r′ → r ≡ r′
   face-put-back-one P Q =
       let e = memory-before-one (P .restored) (Q .restored) in
-      λ i. outcome (changed ((P .number ∙ sym (Q .number)) i) (e i .words)) (e i .links) (e i .values)
+      λ i. outcome (changed ((P .number ∙ sym (Q .number)) i) ((P .unplaced ∙ sym (Q .unplaced)) i) (e i .words)) (e i .links) (e i .values)
 
 -- what the weaker laws are good for: every C function then returns what it would have returned before
 module _ (links values words : List ℕ) where

@@ -6,6 +6,7 @@ use mathlib.Core.List.{List, [], _∷_, _++_, reverse}
 use Prim.Native.Nat.{ℕ, _+_, _*_, _≤_, _<_}
 use lib.Dec.{eqb}
 use lib.ListN.{length, getD, take, drop}
+use Rattle.books.specs.Place.{Place, noPlace}
 use Rattle.books.specs.Book.{nullSlot, wipeWord, eight}
 use Rattle.books.specs.Outcome.{Outcome}
 use Rattle.books.specs.Words.{bookFrom}
@@ -17,7 +18,7 @@ use Rattle.shapes.specs.Moves.{Move, check, askLength, pushBack, pushFront, pop
 use Rattle.shapes.specs.Ledger.{Ledger, nothingNoted, notedDone}
 use Rattle.engines.specs.Trace.{othersLack}
 use Rattle.xor.specs.Sound.{XorBook}
-use Rattle.faces.specs.Face.{Changed, Handed, told, shown, setupFace, checkFace, lengthFace, pushBackFace, pushFrontFace, popBackFace, popFrontFace, readForwardFace, readBackwardFace, clearFace}
+use Rattle.faces.specs.Face.{Prepared, Changed, Handed, told, shown, setupFace, checkFace, lengthFace, pushBackFace, pushFrontFace, popBackFace, popFrontFace, readForwardFace, readBackwardFace, clearFace}
 
 -- what the firmware lends: both slices, and the book's words
 pub record Memory : Type 0 where
@@ -25,7 +26,10 @@ pub record Memory : Type 0 where
   pub values : List ℕ
   pub words : List ℕ
 
--- what it holds when setup, a push or a clear returns, and when a pop does
+-- what it holds when setup returns, when a push or a clear does, and when a pop does
+abbrev pub memoryPrepared : Outcome Prepared → Memory
+memoryPrepared r = record { links = r .links; values = r .values; words = r .answer .book }
+
 abbrev pub memoryChanged : Outcome Changed → Memory
 memoryChanged r = record { links = r .links; values = r .values; words = r .answer .book }
 
@@ -34,7 +38,7 @@ memoryHanded r = record { links = r .links; values = r .values; words = r .answe
 
 -- the number that the function returns
 abbrev pub returned : Memory → Move → ℕ
-returned m check = checkFace (m .links) (m .values) (m .words)
+returned m check = checkFace (m .links) (m .values) (m .words) .number
 returned m (askLength l) = lengthFace (m .links) (m .values) (m .words) l .number
 returned m (pushBack l value) = pushBackFace (m .links) (m .values) (m .words) l value .answer .number
 returned m (pushFront l value) = pushFrontFace (m .links) (m .values) (m .words) l value .answer .number
@@ -43,6 +47,18 @@ returned m (popFront l) = popFrontFace (m .links) (m .values) (m .words) l .answ
 returned m (readForward l buffer at) = readForwardFace (m .links) (m .values) (m .words) l buffer at .number
 returned m (readBackward l buffer at) = readBackwardFace (m .links) (m .values) (m .words) l buffer at .number
 returned m (clear l) = clearFace (m .links) (m .values) (m .words) l .answer .number
+
+-- what it writes to `place`
+abbrev pub placeWritten : Memory → Move → Place
+placeWritten m check = checkFace (m .links) (m .values) (m .words) .place
+placeWritten m (askLength l) = lengthFace (m .links) (m .values) (m .words) l .place
+placeWritten m (pushBack l value) = pushBackFace (m .links) (m .values) (m .words) l value .answer .place
+placeWritten m (pushFront l value) = pushFrontFace (m .links) (m .values) (m .words) l value .answer .place
+placeWritten m (popBack l) = popBackFace (m .links) (m .values) (m .words) l .answer .place
+placeWritten m (popFront l) = popFrontFace (m .links) (m .values) (m .words) l .answer .place
+placeWritten m (readForward l buffer at) = readForwardFace (m .links) (m .values) (m .words) l buffer at .place
+placeWritten m (readBackward l buffer at) = readBackwardFace (m .links) (m .values) (m .words) l buffer at .place
+placeWritten m (clear l) = clearFace (m .links) (m .values) (m .words) l .answer .place
 
 -- what the memory holds then. Check, length and the reads are lent it to read alone
 abbrev pub memoryAfter : Memory → Move → Memory
@@ -63,7 +79,7 @@ notedFor m move ledger = cond (eqb (returned m move) 0) (notedDone move ledger) 
 -- "Take an accepted setup, let only the other nine calls touch that pool": any of them, one after the other, done or refused. The words that setup is lent may hold anything, and be of any number
 pub data FaceTrace (lists : ℕ) (shares limits : List ℕ) : Memory → Ledger → Type 0 where
   started : (links values words : List ℕ) → setupFace links values lists shares limits words .answer .number ≡ 0
-      → FaceTrace lists shares limits (memoryChanged (setupFace links values lists shares limits words)) nothingNoted
+      → FaceTrace lists shares limits (memoryPrepared (setupFace links values lists shares limits words)) nothingNoted
   continued : {m : Memory} {ledger : Ledger} → FaceTrace lists shares limits m ledger → (move : Move) → FaceTrace lists shares limits (memoryAfter m move) (notedFor m move ledger)
 
 -- what demand 3 says at any point of a trace, sentence by sentence, of the numbers that the C functions return. `s` is the sound shape: the slots that each list holds, and the free ones
@@ -95,24 +111,25 @@ pub record FaceDemand3 (lists : ℕ) (shares limits : List ℕ) (m : Memory) (le
   pub taken : (l value : ℕ) → l < lists
       → (returned m (pushBack l value) ≢ 6 → returned m (pushBack l value) ≢ 7 → returned m (pushBack l value) ≡ 0)
       × (returned m (pushFront l value) ≢ 6 → returned m (pushFront l value) ≢ 7 → returned m (pushFront l value) ≡ 0)
-  -- the check finds it sound; no call of a trace is refused by 1 or by 3
-  pub checked : returned m check ≡ 0
-  pub never : (move : Move) → (returned m move ≢ 1) × (returned m move ≢ 3)
+  -- the check finds it sound; no call of a trace is refused by 1, or by one of 9 to 15, and none names a place
+  pub accepted : returned m check ≡ 0
+  pub never : (move : Move) → (returned m move ≢ 1) × ((k : ℕ) → 9 ≤ k → k ≤ 15 → returned m move ≢ k)
+  pub nowhere : (move : Move) → placeWritten m move ≡ noPlace
 
 -- what the calls give on a list of the trace that holds the values `vs`, and that a clear leaves nothing of them
 pub record FaceList (m : Memory) (s : Shape) (l : ℕ) (vs : List ℕ) : Type 0 where
-  pub asLong : lengthFace (m .links) (m .values) (m .words) l ≡ told 0 (length vs)
+  pub asLong : lengthFace (m .links) (m .values) (m .words) l ≡ told 0 noPlace (length vs)
   -- a pop is done where there is a value, and hands out the one at its end; it gives 5 exactly where there is none
   pub last : (v : ℕ) (rest : List ℕ) → vs ≡ rest ++ v ∷ [] → (returned m (popBack l) ≡ 0) × (popBackFace (m .links) (m .values) (m .words) l .answer .value ≡ v)
   pub first : (v : ℕ) (rest : List ℕ) → vs ≡ v ∷ rest → (returned m (popFront l) ≡ 0) × (popFrontFace (m .links) (m .values) (m .words) l .answer .value ≡ v)
   pub five : (returned m (popBack l) ≡ 5 ↔ (length vs ≡ 0)) × (returned m (popFront l) ≡ 5 ↔ (length vs ≡ 0))
   -- a read writes the values from place `at` on, backward reversed, and every other place keeps what it held; where they do not fit it gives 8, and the buffer stays
   pub forward : (buffer : List ℕ) (at : ℕ) → at + length vs ≤ length buffer
-      → readForwardFace (m .links) (m .values) (m .words) l buffer at ≡ shown 0 (length vs) (take at buffer ++ vs ++ drop (at + length vs) buffer)
+      → readForwardFace (m .links) (m .values) (m .words) l buffer at ≡ shown 0 noPlace (length vs) (take at buffer ++ vs ++ drop (at + length vs) buffer)
   pub backward : (buffer : List ℕ) (at : ℕ) → at + length vs ≤ length buffer
-      → readBackwardFace (m .links) (m .values) (m .words) l buffer at ≡ shown 0 (length vs) (take at buffer ++ reverse vs ++ drop (at + length vs) buffer)
+      → readBackwardFace (m .links) (m .values) (m .words) l buffer at ≡ shown 0 noPlace (length vs) (take at buffer ++ reverse vs ++ drop (at + length vs) buffer)
   pub tooSmall : (buffer : List ℕ) (at : ℕ) → length buffer < at + length vs
-      → (readForwardFace (m .links) (m .values) (m .words) l buffer at ≡ shown 8 0 buffer) × (readBackwardFace (m .links) (m .values) (m .words) l buffer at ≡ shown 8 0 buffer)
+      → (readForwardFace (m .links) (m .values) (m .words) l buffer at ≡ shown 8 noPlace 0 buffer) × (readBackwardFace (m .links) (m .values) (m .words) l buffer at ≡ shown 8 noPlace 0 buffer)
   -- a clear is done, and each slot that the list had holds the wipe word then
   pub cleared : returned m (clear l) ≡ 0
   pub nothingLeft : (y : ℕ) → 0 < count y (chainAt s l) → cell (memoryAfter m (clear l) .values) y ≡ wipeWord

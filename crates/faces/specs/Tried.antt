@@ -1,14 +1,15 @@
 -- 01's pools P1 to P7 and what comes after them, as the C functions leave them: every cell, every word of the book, each number and answer, and the ledger of the trace. Refused calls stand between done ones.
 use mathlib.Core.Bool.{Bool, true, _&&_}
-use mathlib.Core.List.{List, [], _∷_, _++_}
+use mathlib.Core.List.{List, [], _∷_, _++_, map}
 use Prim.Native.Nat.{ℕ}
 use lib.Dec.{eqb}
 use lib.ListN.{replicate}
+use Rattle.books.specs.Place.{Place, noPlace}
 use Rattle.books.specs.Tried.{sameNumbers, allBits}
 use Rattle.shapes.specs.Moves.{Move, check, askLength, pushBack, pushFront, popBack, popFront, readForward, readBackward, clear}
 use Rattle.shapes.specs.Ledger.{Ledger, nothingNoted}
 use Rattle.faces.specs.Face.{Told, Shown, setupFace, lengthFace, popBackFace, popFrontFace, readForwardFace, readBackwardFace}
-use Rattle.faces.specs.Trace.{Memory, memoryChanged, returned, memoryAfter, notedFor}
+use Rattle.faces.specs.Trace.{Memory, memoryPrepared, returned, placeWritten, memoryAfter, notedFor}
 
 -- the words of a book with two lists, shares 2 and 1, limits 5 and 3: their heads and tails, and the free head
 abbrev twoWords : ℕ → ℕ → ℕ → ℕ → ℕ → List ℕ
@@ -63,17 +64,22 @@ abbrev pub cSetupsPass : List CSetup → Bool
 cSetupsPass [] = true
 cSetupsPass (c ∷ cs) =
     let r = setupFace (c .before .links) (c .before .values) (c .lists) (c .shares) (5 ∷ 3 ∷ replicate 6 0) (c .before .words) in
-    eqb (r .answer .number) (c .number) && (sameMemory (memoryChanged r) (c .left) && cSetupsPass cs)
+    eqb (r .answer .number) (c .number) && (sameMemory (memoryPrepared r) (c .left) && cSetupsPass cs)
 
 -- ---- the nine calls, one after the other, from P1 on
 
 pub record CTurn : Type 0 where
   pub move : Move
   pub number : ℕ
+  pub place : Place
   pub left : Memory
 
 abbrev cTurn : Move → ℕ → Memory → CTurn
-cTurn move number left = record { move = move; number = number; left = left }
+cTurn move number left = record { move = move; number = number; place = noPlace; left = left }
+
+-- a call that names a broken rule, with its list and position, and leaves everything
+abbrev cNamed : Memory → ℕ → ℕ → ℕ → Move → CTurn
+cNamed m rule list position move = record { move = move; number = rule; place = record { list = list; position = position }; left = m }
 
 abbrev pub cP2 : Memory
 cP2 = memory (six 0 1 1 1 5 0) (six 0 20 30 10 0 0) (twoWords 3 2 0 0 4)
@@ -127,22 +133,16 @@ cTurns =
     ∷ cTurn (popBack 1) 0 cPopped
     ∷ []
 
+-- one call of each of the nine functions
+abbrev everyCall : List Move
+everyCall = check ∷ askLength 0 ∷ pushBack 1 60 ∷ pushFront 9 60 ∷ popBack 0 ∷ popFront 1 ∷ readForward 0 (replicate 6 7) 0 ∷ readBackward 9 [] 1 ∷ clear 0 ∷ []
+
 -- P3 with another free head in its words: it is not sound, and every call leaves it
 abbrev pub cDamaged : Memory
 cDamaged = memory (six 0 1 5 1 2 0) (six 0 20 30 10 40 0) (twoWords 3 4 0 0 4)
 
 abbrev pub cRefused : List CTurn
-cRefused =
-    cTurn check 3 cDamaged
-    ∷ cTurn (askLength 0) 3 cDamaged
-    ∷ cTurn (pushBack 1 60) 3 cDamaged
-    ∷ cTurn (pushFront 1 60) 3 cDamaged
-    ∷ cTurn (popBack 0) 3 cDamaged
-    ∷ cTurn (popFront 0) 3 cDamaged
-    ∷ cTurn (readForward 0 (replicate 6 7) 0) 3 cDamaged
-    ∷ cTurn (readBackward 0 (replicate 6 7) 0) 3 cDamaged
-    ∷ cTurn (clear 0) 3 cDamaged
-    ∷ []
+cRefused = map (cNamed cDamaged 12 0 0) everyCall
 
 -- ---- 02 a): presses taken straight back, and pops pushed back, from P2 on
 
@@ -186,10 +186,50 @@ cUndoneHands =
     && (eqb (popBackFace (cFull .links) (cFull .values) (cFull .words) 1 .answer .value) 13
     && eqb (popFrontFace (cFull .links) (cFull .values) (cFull .words) 1 .answer .value) 11)))
 
--- does each return its number and leave its memory?
+-- does each return its number, write its place and leave its memory?
 abbrev pub cTurnsPass : Memory → List CTurn → Bool
 cTurnsPass m [] = true
-cTurnsPass m (c ∷ cs) = eqb (returned m (c .move)) (c .number) && (sameMemory (memoryAfter m (c .move)) (c .left) && cTurnsPass (memoryAfter m (c .move)) cs)
+cTurnsPass m (c ∷ cs) =
+    eqb (returned m (c .move)) (c .number)
+    && (eqb (placeWritten m (c .move) .list) (c .place .list)
+    && (eqb (placeWritten m (c .move) .position) (c .place .position)
+    && (sameMemory (memoryAfter m (c .move)) (c .left) && cTurnsPass (memoryAfter m (c .move)) cs)))
+
+-- ---- 02 b)
+
+-- pools of six slots, each with another rule broken first: every call names it with its place, and leaves everything
+pub record CBroken : Type 0 where
+  pub memory : Memory
+  pub rule : ℕ
+  pub list : ℕ
+  pub position : ℕ
+
+abbrev cBroken : ℕ → ℕ → ℕ → Memory → CBroken
+cBroken rule list position memory = record { memory = memory; rule = rule; list = list; position = position }
+
+abbrev pub cBrokenPools : List CBroken
+cBrokenPools =
+    -- three lists, where the third has a limit and the book says two
+    cBroken 9 0 0 (memory (six 0 1 5 1 2 0) (six 0 20 30 10 40 0) ((2 ∷ 3 ∷ 4 ∷ 2 ∷ 5 ∷ 0 ∷ 0 ∷ 1 ∷ 3 ∷ 0 ∷ 0 ∷ 0 ∷ 1 ∷ []) ++ replicate 20 0 ++ 5 ∷ []))
+    ∷ cBroken 10 0 0 (memory (six 1 1 5 1 2 0) (six 0 20 30 10 40 0) (twoWords 3 4 0 0 5))
+    ∷ cBroken 10 0 0 (memory (six 0 1 5 1 2 0) (six allBits 20 30 10 40 0) (twoWords 3 4 0 0 5))
+    -- list 0 is 3, 1, 2, 4: it ends before its tail; list 1 has a tail and no head; list 1 has slot 2
+    ∷ cBroken 11 0 4 (memory (six 0 1 5 1 2 0) (six 0 20 30 10 40 0) (twoWords 3 2 0 0 5))
+    ∷ cBroken 11 1 0 (memory (six 0 1 5 1 2 0) (six 0 20 30 10 40 0) (twoWords 3 4 0 5 5))
+    ∷ cBroken 11 1 1 (memory (six 0 1 5 1 2 2) (six 0 20 30 10 40 60) (twoWords 3 4 5 5 0))
+    -- the free chain leaves the pool behind slot 5
+    ∷ cBroken 12 0 1 (memory (six 0 1 5 1 2 6) (six 0 20 30 10 40 0) (twoWords 3 4 0 0 5))
+    -- slot 5 is nowhere; slot 5 is free and holds one bit
+    ∷ cBroken 13 0 5 (memory (six 0 1 5 1 2 0) (six 0 20 30 10 40 0) (twoWords 3 4 0 0 0))
+    ∷ cBroken 14 0 5 (memory (six 0 1 5 1 2 0) (six 0 20 30 10 40 9223372036854775808) (twoWords 3 4 0 0 5))
+    -- list 1 is over its limit of three; list 0 has all five slots, and list 1 lacks one
+    ∷ cBroken 15 1 0 (memory (six 0 1 5 1 2 0) (six 0 20 30 10 40 0) (twoWords 0 0 3 4 5))
+    ∷ cBroken 15 2 0 (memory (six 0 1 5 1 7 4) (six 0 20 30 10 40 50) (twoWords 3 5 0 0 0))
+    ∷ []
+
+abbrev pub cBrokenPass : List CBroken → Bool
+cBrokenPass [] = true
+cBrokenPass (c ∷ cs) = cTurnsPass (c .memory) (map (cNamed (c .memory) (c .rule) (c .list) (c .position)) everyCall) && cBrokenPass cs
 
 -- ---- the ledger of that trace
 
@@ -221,9 +261,9 @@ cAnswersPass =
     toldIs (lengthFace (m .links) (m .values) (m .words) 0) 0 3
     && (toldIs (lengthFace (m .links) (m .values) (m .words) 1) 0 2
     && (toldIs (lengthFace (m .links) (m .values) (m .words) 2) 4 0
-    && (toldIs (lengthFace (cDamaged .links) (cDamaged .values) (cDamaged .words) 0) 3 0
+    && (toldIs (lengthFace (cDamaged .links) (cDamaged .values) (cDamaged .words) 0) 12 0
     && (eqb (popBackFace (cDamaged .links) (cDamaged .values) (cDamaged .words) 0 .answer .value) 0
-    && (shownIs (readBackwardFace (cDamaged .links) (cDamaged .values) (cDamaged .words) 0 five 0) 3 0 five
+    && (shownIs (readBackwardFace (cDamaged .links) (cDamaged .values) (cDamaged .words) 0 five 0) 12 0 five
     && (eqb (popFrontFace (m .links) (m .values) (m .words) 0 .answer .value) 20
     && (eqb (popBackFace (m .links) (m .values) (m .words) 0 .answer .value) 40
     && (eqb (popBackFace (m .links) (m .values) (m .words) 1 .answer .value) 61

@@ -4,6 +4,7 @@ use mathlib.Core.List.{List}
 use Prim.Native.Nat.{ℕ}
 use lib.ListN.{length}
 use Rattle.books.specs.Book.{eight}
+use Rattle.books.specs.Place.{noPlace}
 use Rattle.books.specs.Outcome.{Outcome}
 use Rattle.books.specs.Words.{bookFrom}
 use Rattle.shapes.specs.declared.End.{End}
@@ -30,12 +31,14 @@ module _ (links values words : List ℕ) where
   -- a pop that takes the push before it back: it returns 0, and the value stands at `value`
   pub record FaceTakenBack (value : ℕ) (r : Outcome Handed) : Type 0 where
     pub number : r .answer .number ≡ 0
+    pub unplaced : r .answer .place ≡ noPlace
     pub handed : r .answer .value ≡ value
     pub restored : MemoryBefore (memoryHanded r)
 
   -- a push that puts back what the pop before it took: it returns 0
   pub record FacePutBack (r : Outcome Changed) : Type 0 where
     pub number : r .answer .number ≡ 0
+    pub unplaced : r .answer .place ≡ noPlace
     pub restored : MemoryBefore (memoryChanged r)
 
   -- the weaker law of each: it returns 0, and each list's sequence of values, each length and the number of free slots are as before
