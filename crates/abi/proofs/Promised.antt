@@ -9,7 +9,8 @@ use ghost.Atoms.{Atoms}
 use contract.Monad.{Fun, fact}
 use denote.Triple.Clauses.{closing}
 use Rattle.books.specs.Outcome.{outcome}
-use Rattle.faces.specs.Face.{changed, handed, told, shown, setupFace, checkFace, lengthFace, pushBackFace, pushFrontFace, popBackFace, popFrontFace, readForwardFace, readBackwardFace, clearFace}
+use Rattle.books.specs.Words.{placeFrom}
+use Rattle.faces.specs.Face.{prepared, checked, changed, handed, told, shown, setupFace, checkFace, lengthFace, pushBackFace, pushFrontFace, popBackFace, popFrontFace, readForwardFace, readBackwardFace, clearFace}
 use Rattle.abi.proofs.changes.flailreeve_setup as setup
 use Rattle.abi.proofs.looks.flailreeve_check as check
 use Rattle.abi.proofs.looks.flailreeve_length as length
@@ -27,34 +28,34 @@ use Rattle.wording.specs.Texts.{textOf}
 use Rattle.faces.specs.Version.{faceVersion}
 
 module _ {M : Type 1} (𝓤 : URA M) (H : Heap 𝓤) (A : Atoms 𝓤) (mem : Memory → SProp 𝓤) (run : Routine → Fun 𝓤) where
-  pub face-setup-promises : setup.spec 𝓤 H A mem run ≡ closing 𝓤 H A setup.ended (λ κs a. record { ghost = Unit {0}; requires = λ _. emp 𝓤; ensures = λ _ r e. fact 𝓤 (outcome (changed r (e .1 .1 .1 .1 .1 .0 .now)) (e .0 .now) (e .1 .0 .now) ≡ setupFace (a .0 .now) (a .1 .0 .now) (a .1 .1 .0) (a .1 .1 .1 .0 .now) (a .1 .1 .1 .1 .0 .now) (a .1 .1 .1 .1 .1 .0 .now)) })
+  pub face-setup-promises : setup.spec 𝓤 H A mem run ≡ closing 𝓤 H A setup.ended (λ κs a. record { ghost = Unit {0}; requires = λ _. emp 𝓤; ensures = λ _ r e. fact 𝓤 (outcome (prepared r (e .1 .1 .1 .1 .1 .0 .now)) (e .0 .now) (e .1 .0 .now) ≡ setupFace (a .0 .now) (a .1 .0 .now) (a .1 .1 .0) (a .1 .1 .1 .0 .now) (a .1 .1 .1 .1 .0 .now) (a .1 .1 .1 .1 .1 .0 .now)) })
   face-setup-promises = refl
 
-  pub face-check-promises : check.spec 𝓤 H A mem run ≡ closing 𝓤 H A check.ended (λ κs a. record { ghost = Unit {0}; requires = λ _. emp 𝓤; ensures = λ _ r e. fact 𝓤 (r ≡ checkFace (a .0 .now) (a .1 .0 .now) (a .1 .1 .0 .now)) })
+  pub face-check-promises : check.spec 𝓤 H A mem run ≡ closing 𝓤 H A check.ended (λ κs a. record { ghost = Unit {0}; requires = λ _. emp 𝓤; ensures = λ _ r e. fact 𝓤 (checked r (placeFrom (e .1 .1 .1 .0 .now)) ≡ checkFace (a .0 .now) (a .1 .0 .now) (a .1 .1 .0 .now)) })
   face-check-promises = refl
 
-  pub face-length-promises : length.spec 𝓤 H A mem run ≡ closing 𝓤 H A length.ended (λ κs a. record { ghost = Unit {0}; requires = λ _. emp 𝓤; ensures = λ _ r e. fact 𝓤 (told r (e .1 .1 .1 .1 .0 .now) ≡ lengthFace (a .0 .now) (a .1 .0 .now) (a .1 .1 .0 .now) (a .1 .1 .1 .0)) })
+  pub face-length-promises : length.spec 𝓤 H A mem run ≡ closing 𝓤 H A length.ended (λ κs a. record { ghost = Unit {0}; requires = λ _. emp 𝓤; ensures = λ _ r e. fact 𝓤 (told r (placeFrom (e .1 .1 .1 .1 .1 .0 .now)) (e .1 .1 .1 .1 .0 .now) ≡ lengthFace (a .0 .now) (a .1 .0 .now) (a .1 .1 .0 .now) (a .1 .1 .1 .0)) })
   face-length-promises = refl
 
-  pub face-push-back-promises : push-back.spec 𝓤 H A mem run ≡ closing 𝓤 H A push-back.ended (λ κs a. record { ghost = Unit {0}; requires = λ _. emp 𝓤; ensures = λ _ r e. fact 𝓤 (outcome (changed r (e .1 .1 .0 .now)) (e .0 .now) (e .1 .0 .now) ≡ pushBackFace (a .0 .now) (a .1 .0 .now) (a .1 .1 .0 .now) (a .1 .1 .1 .0) (a .1 .1 .1 .1 .0)) })
+  pub face-push-back-promises : push-back.spec 𝓤 H A mem run ≡ closing 𝓤 H A push-back.ended (λ κs a. record { ghost = Unit {0}; requires = λ _. emp 𝓤; ensures = λ _ r e. fact 𝓤 (outcome (changed r (placeFrom (e .1 .1 .1 .1 .1 .0 .now)) (e .1 .1 .0 .now)) (e .0 .now) (e .1 .0 .now) ≡ pushBackFace (a .0 .now) (a .1 .0 .now) (a .1 .1 .0 .now) (a .1 .1 .1 .0) (a .1 .1 .1 .1 .0)) })
   face-push-back-promises = refl
 
-  pub face-push-front-promises : push-front.spec 𝓤 H A mem run ≡ closing 𝓤 H A push-front.ended (λ κs a. record { ghost = Unit {0}; requires = λ _. emp 𝓤; ensures = λ _ r e. fact 𝓤 (outcome (changed r (e .1 .1 .0 .now)) (e .0 .now) (e .1 .0 .now) ≡ pushFrontFace (a .0 .now) (a .1 .0 .now) (a .1 .1 .0 .now) (a .1 .1 .1 .0) (a .1 .1 .1 .1 .0)) })
+  pub face-push-front-promises : push-front.spec 𝓤 H A mem run ≡ closing 𝓤 H A push-front.ended (λ κs a. record { ghost = Unit {0}; requires = λ _. emp 𝓤; ensures = λ _ r e. fact 𝓤 (outcome (changed r (placeFrom (e .1 .1 .1 .1 .1 .0 .now)) (e .1 .1 .0 .now)) (e .0 .now) (e .1 .0 .now) ≡ pushFrontFace (a .0 .now) (a .1 .0 .now) (a .1 .1 .0 .now) (a .1 .1 .1 .0) (a .1 .1 .1 .1 .0)) })
   face-push-front-promises = refl
 
-  pub face-pop-back-promises : pop-back.spec 𝓤 H A mem run ≡ closing 𝓤 H A pop-back.ended (λ κs a. record { ghost = Unit {0}; requires = λ _. emp 𝓤; ensures = λ _ r e. fact 𝓤 (outcome (handed r (e .1 .1 .1 .1 .0 .now) (e .1 .1 .0 .now)) (e .0 .now) (e .1 .0 .now) ≡ popBackFace (a .0 .now) (a .1 .0 .now) (a .1 .1 .0 .now) (a .1 .1 .1 .0)) })
+  pub face-pop-back-promises : pop-back.spec 𝓤 H A mem run ≡ closing 𝓤 H A pop-back.ended (λ κs a. record { ghost = Unit {0}; requires = λ _. emp 𝓤; ensures = λ _ r e. fact 𝓤 (outcome (handed r (placeFrom (e .1 .1 .1 .1 .1 .0 .now)) (e .1 .1 .1 .1 .0 .now) (e .1 .1 .0 .now)) (e .0 .now) (e .1 .0 .now) ≡ popBackFace (a .0 .now) (a .1 .0 .now) (a .1 .1 .0 .now) (a .1 .1 .1 .0)) })
   face-pop-back-promises = refl
 
-  pub face-pop-front-promises : pop-front.spec 𝓤 H A mem run ≡ closing 𝓤 H A pop-front.ended (λ κs a. record { ghost = Unit {0}; requires = λ _. emp 𝓤; ensures = λ _ r e. fact 𝓤 (outcome (handed r (e .1 .1 .1 .1 .0 .now) (e .1 .1 .0 .now)) (e .0 .now) (e .1 .0 .now) ≡ popFrontFace (a .0 .now) (a .1 .0 .now) (a .1 .1 .0 .now) (a .1 .1 .1 .0)) })
+  pub face-pop-front-promises : pop-front.spec 𝓤 H A mem run ≡ closing 𝓤 H A pop-front.ended (λ κs a. record { ghost = Unit {0}; requires = λ _. emp 𝓤; ensures = λ _ r e. fact 𝓤 (outcome (handed r (placeFrom (e .1 .1 .1 .1 .1 .0 .now)) (e .1 .1 .1 .1 .0 .now) (e .1 .1 .0 .now)) (e .0 .now) (e .1 .0 .now) ≡ popFrontFace (a .0 .now) (a .1 .0 .now) (a .1 .1 .0 .now) (a .1 .1 .1 .0)) })
   face-pop-front-promises = refl
 
-  pub face-read-forward-promises : read-forward.spec 𝓤 H A mem run ≡ closing 𝓤 H A read-forward.ended (λ κs a. record { ghost = Unit {0}; requires = λ _. emp 𝓤; ensures = λ _ r e. fact 𝓤 (shown r (e .1 .1 .1 .1 .1 .1 .0 .now) (e .1 .1 .1 .1 .0 .now) ≡ readForwardFace (a .0 .now) (a .1 .0 .now) (a .1 .1 .0 .now) (a .1 .1 .1 .0) (a .1 .1 .1 .1 .0 .now) (a .1 .1 .1 .1 .1 .0)) })
+  pub face-read-forward-promises : read-forward.spec 𝓤 H A mem run ≡ closing 𝓤 H A read-forward.ended (λ κs a. record { ghost = Unit {0}; requires = λ _. emp 𝓤; ensures = λ _ r e. fact 𝓤 (shown r (placeFrom (e .1 .1 .1 .1 .1 .1 .1 .0 .now)) (e .1 .1 .1 .1 .1 .1 .0 .now) (e .1 .1 .1 .1 .0 .now) ≡ readForwardFace (a .0 .now) (a .1 .0 .now) (a .1 .1 .0 .now) (a .1 .1 .1 .0) (a .1 .1 .1 .1 .0 .now) (a .1 .1 .1 .1 .1 .0)) })
   face-read-forward-promises = refl
 
-  pub face-read-backward-promises : read-backward.spec 𝓤 H A mem run ≡ closing 𝓤 H A read-backward.ended (λ κs a. record { ghost = Unit {0}; requires = λ _. emp 𝓤; ensures = λ _ r e. fact 𝓤 (shown r (e .1 .1 .1 .1 .1 .1 .0 .now) (e .1 .1 .1 .1 .0 .now) ≡ readBackwardFace (a .0 .now) (a .1 .0 .now) (a .1 .1 .0 .now) (a .1 .1 .1 .0) (a .1 .1 .1 .1 .0 .now) (a .1 .1 .1 .1 .1 .0)) })
+  pub face-read-backward-promises : read-backward.spec 𝓤 H A mem run ≡ closing 𝓤 H A read-backward.ended (λ κs a. record { ghost = Unit {0}; requires = λ _. emp 𝓤; ensures = λ _ r e. fact 𝓤 (shown r (placeFrom (e .1 .1 .1 .1 .1 .1 .1 .0 .now)) (e .1 .1 .1 .1 .1 .1 .0 .now) (e .1 .1 .1 .1 .0 .now) ≡ readBackwardFace (a .0 .now) (a .1 .0 .now) (a .1 .1 .0 .now) (a .1 .1 .1 .0) (a .1 .1 .1 .1 .0 .now) (a .1 .1 .1 .1 .1 .0)) })
   face-read-backward-promises = refl
 
-  pub face-clear-promises : clear.spec 𝓤 H A mem run ≡ closing 𝓤 H A clear.ended (λ κs a. record { ghost = Unit {0}; requires = λ _. emp 𝓤; ensures = λ _ r e. fact 𝓤 (outcome (changed r (e .1 .1 .0 .now)) (e .0 .now) (e .1 .0 .now) ≡ clearFace (a .0 .now) (a .1 .0 .now) (a .1 .1 .0 .now) (a .1 .1 .1 .0)) })
+  pub face-clear-promises : clear.spec 𝓤 H A mem run ≡ closing 𝓤 H A clear.ended (λ κs a. record { ghost = Unit {0}; requires = λ _. emp 𝓤; ensures = λ _ r e. fact 𝓤 (outcome (changed r (placeFrom (e .1 .1 .1 .1 .0 .now)) (e .1 .1 .0 .now)) (e .0 .now) (e .1 .0 .now) ≡ clearFace (a .0 .now) (a .1 .0 .now) (a .1 .1 .0 .now) (a .1 .1 .1 .0)) })
   face-clear-promises = refl
 
   pub face-version-promises : version.spec 𝓤 H A mem run ≡ closing 𝓤 H A version.ended (λ κs a. record { ghost = Unit {0}; requires = λ _. emp 𝓤; ensures = λ _ r e. fact 𝓤 (r ≡ faceVersion) })

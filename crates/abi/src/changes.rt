@@ -1,12 +1,14 @@
-// Setup, the pushes, the pops and clear for C. A refused one changes neither the pool nor the book, and stores nothing there.
+// Setup, the pushes, the pops and clear for C. A refused one changes neither the pool nor the book, and stores nothing there. Each but setup
+// writes the place, 0 and 0 where its number sets none: first these, so that a call that is done keeps nothing for it.
 use crate::words::keep;
 use pools::words::entry_of;
 use pools::words::free_of;
 use pools::words::has_list;
 use shapes::End;
 ghost use mathlib.Core.Path.{_≡_};
+ghost use Rattle.books.specs.Words.{placeFrom};
 ghost use Rattle.books.specs.Outcome.{outcome};
-ghost use Rattle.faces.specs.Face.{changed, handed, setupFace, pushBackFace, pushFrontFace, popBackFace, popFrontFace, clearFace};
+ghost use Rattle.faces.specs.Face.{prepared, changed, handed, setupFace, pushBackFace, pushFrontFace, popBackFace, popFrontFace, clearFace};
 
 #[no_mangle]
 pub extern "C" fn flailreeve_setup(
@@ -17,7 +19,7 @@ pub extern "C" fn flailreeve_setup(
     limits: &[u16; 8],
     book: &mut [u16; 34],
 ) -> u16
-    ensures { λ r. ⌜ outcome (changed r (now (book .exit))) (now (links .exit)) (now (values .exit)) ≡ setupFace (now (links .entry)) (now (values .entry)) lists (now (shares .entry)) (now (limits .entry)) (now (book .entry)) ⌝ }
+    ensures { λ r. ⌜ outcome (prepared r (now (book .exit))) (now (links .exit)) (now (values .exit)) ≡ setupFace (now (links .entry)) (now (values .entry)) lists (now (shares .entry)) (now (limits .entry)) (now (book .entry)) ⌝ }
 {
     let number = shares::setup::lay_out(links, values, lists, shares, limits);
     if number == 0 {
@@ -33,12 +35,16 @@ pub extern "C" fn flailreeve_push_back(
     book: &mut [u16; 34],
     list: u16,
     value: u64,
+    place: &mut [u16; 2],
 ) -> u16
-    ensures { λ r. ⌜ outcome (changed r (now (book .exit))) (now (links .exit)) (now (values .exit)) ≡ pushBackFace (now (links .entry)) (now (values .entry)) (now (book .entry)) list value ⌝ }
+    ensures { λ r. ⌜ outcome (changed r (placeFrom (now (place .exit))) (now (book .exit))) (now (links .exit)) (now (values .exit)) ≡ pushBackFace (now (links .entry)) (now (values .entry)) (now (book .entry)) list value ⌝ }
 {
-    let seen = pools::check::look(links, values, book, list);
+    *place = [0, 0];
+    let word = pools::check::look(links, values, book, list);
+    let seen = pools::word::told(word);
     let refusal = seen.refusal;
     if refusal.number != 0 {
+        *place = [refusal.list, refusal.position];
         return refusal.number;
     }
     if !has_list(book, list) {
@@ -58,12 +64,16 @@ pub extern "C" fn flailreeve_push_front(
     book: &mut [u16; 34],
     list: u16,
     value: u64,
+    place: &mut [u16; 2],
 ) -> u16
-    ensures { λ r. ⌜ outcome (changed r (now (book .exit))) (now (links .exit)) (now (values .exit)) ≡ pushFrontFace (now (links .entry)) (now (values .entry)) (now (book .entry)) list value ⌝ }
+    ensures { λ r. ⌜ outcome (changed r (placeFrom (now (place .exit))) (now (book .exit))) (now (links .exit)) (now (values .exit)) ≡ pushFrontFace (now (links .entry)) (now (values .entry)) (now (book .entry)) list value ⌝ }
 {
-    let seen = pools::check::look(links, values, book, list);
+    *place = [0, 0];
+    let word = pools::check::look(links, values, book, list);
+    let seen = pools::word::told(word);
     let refusal = seen.refusal;
     if refusal.number != 0 {
+        *place = [refusal.list, refusal.position];
         return refusal.number;
     }
     if !has_list(book, list) {
@@ -83,12 +93,16 @@ pub extern "C" fn flailreeve_pop_back(
     book: &mut [u16; 34],
     list: u16,
     value: &mut u64,
+    place: &mut [u16; 2],
 ) -> u16
-    ensures { λ r. ⌜ outcome (handed r (now (value .exit)) (now (book .exit))) (now (links .exit)) (now (values .exit)) ≡ popBackFace (now (links .entry)) (now (values .entry)) (now (book .entry)) list ⌝ }
+    ensures { λ r. ⌜ outcome (handed r (placeFrom (now (place .exit))) (now (value .exit)) (now (book .exit))) (now (links .exit)) (now (values .exit)) ≡ popBackFace (now (links .entry)) (now (values .entry)) (now (book .entry)) list ⌝ }
 {
-    let seen = pools::check::look(links, values, book, list);
+    *place = [0, 0];
+    let word = pools::check::look(links, values, book, list);
+    let seen = pools::word::told(word);
     let refusal = seen.refusal;
     if refusal.number != 0 {
+        *place = [refusal.list, refusal.position];
         *value = 0;
         return refusal.number;
     }
@@ -110,12 +124,16 @@ pub extern "C" fn flailreeve_pop_front(
     book: &mut [u16; 34],
     list: u16,
     value: &mut u64,
+    place: &mut [u16; 2],
 ) -> u16
-    ensures { λ r. ⌜ outcome (handed r (now (value .exit)) (now (book .exit))) (now (links .exit)) (now (values .exit)) ≡ popFrontFace (now (links .entry)) (now (values .entry)) (now (book .entry)) list ⌝ }
+    ensures { λ r. ⌜ outcome (handed r (placeFrom (now (place .exit))) (now (value .exit)) (now (book .exit))) (now (links .exit)) (now (values .exit)) ≡ popFrontFace (now (links .entry)) (now (values .entry)) (now (book .entry)) list ⌝ }
 {
-    let seen = pools::check::look(links, values, book, list);
+    *place = [0, 0];
+    let word = pools::check::look(links, values, book, list);
+    let seen = pools::word::told(word);
     let refusal = seen.refusal;
     if refusal.number != 0 {
+        *place = [refusal.list, refusal.position];
         *value = 0;
         return refusal.number;
     }
@@ -136,12 +154,16 @@ pub extern "C" fn flailreeve_clear(
     values: &mut [u64],
     book: &mut [u16; 34],
     list: u16,
+    place: &mut [u16; 2],
 ) -> u16
-    ensures { λ r. ⌜ outcome (changed r (now (book .exit))) (now (links .exit)) (now (values .exit)) ≡ clearFace (now (links .entry)) (now (values .entry)) (now (book .entry)) list ⌝ }
+    ensures { λ r. ⌜ outcome (changed r (placeFrom (now (place .exit))) (now (book .exit))) (now (links .exit)) (now (values .exit)) ≡ clearFace (now (links .entry)) (now (values .entry)) (now (book .entry)) list ⌝ }
 {
-    let seen = pools::check::look(links, values, book, list);
+    *place = [0, 0];
+    let word = pools::check::look(links, values, book, list);
+    let seen = pools::word::told(word);
     let refusal = seen.refusal;
     if refusal.number != 0 {
+        *place = [refusal.list, refusal.position];
         return refusal.number;
     }
     if !has_list(book, list) {

@@ -1,13 +1,23 @@
-// Check, length and the reads for C. They change neither the pool nor the book.
+// Check, length and the reads for C. They change neither the pool nor the book, and write the place, 0 and 0 where their number sets none.
 use shapes::End;
 ghost use mathlib.Core.Path.{_≡_};
-ghost use Rattle.faces.specs.Face.{told, shown, checkFace, lengthFace, readForwardFace, readBackwardFace};
+ghost use Rattle.books.specs.Words.{placeFrom};
+ghost use Rattle.faces.specs.Face.{checked, told, shown, checkFace, lengthFace, readForwardFace, readBackwardFace};
 
 #[no_mangle]
-pub extern "C" fn flailreeve_check(links: &[u16], values: &[u64], book: &[u16; 34]) -> u16
-    ensures { λ r. ⌜ r ≡ checkFace (now (links .entry)) (now (values .entry)) (now (book .entry)) ⌝ }
+pub extern "C" fn flailreeve_check(
+    links: &[u16],
+    values: &[u64],
+    book: &[u16; 34],
+    place: &mut [u16; 2],
+) -> u16
+    ensures { λ r. ⌜ checked r (placeFrom (now (place .exit))) ≡ checkFace (now (links .entry)) (now (values .entry)) (now (book .entry)) ⌝ }
 {
+    *place = [0, 0];
     let refusal = shares::check::check_words(links, values, book);
+    if refusal.number != 0 {
+        *place = [refusal.list, refusal.position];
+    }
     refusal.number
 }
 
@@ -18,12 +28,17 @@ pub extern "C" fn flailreeve_length(
     book: &[u16; 34],
     list: u16,
     length: &mut u16,
+    place: &mut [u16; 2],
 ) -> u16
-    ensures { λ r. ⌜ told r (now (length .exit)) ≡ lengthFace (now (links .entry)) (now (values .entry)) (now (book .entry)) list ⌝ }
+    ensures { λ r. ⌜ told r (placeFrom (now (place .exit))) (now (length .exit)) ≡ lengthFace (now (links .entry)) (now (values .entry)) (now (book .entry)) list ⌝ }
 {
+    *place = [0, 0];
     let answer = shares::reads::length_words(links, values, book, list);
     let refusal = answer.refusal;
     *length = answer.length;
+    if refusal.number != 0 {
+        *place = [refusal.list, refusal.position];
+    }
     refusal.number
 }
 
@@ -36,12 +51,14 @@ pub extern "C" fn flailreeve_read_forward(
     out: &mut [u64],
     at: usize,
     count: &mut u16,
+    place: &mut [u16; 2],
 ) -> u16
-    ensures { λ r. ⌜ shown r (now (count .exit)) (now (out .exit)) ≡ readForwardFace (now (links .entry)) (now (values .entry)) (now (book .entry)) list (now (out .entry)) at ⌝ }
+    ensures { λ r. ⌜ shown r (placeFrom (now (place .exit))) (now (count .exit)) (now (out .exit)) ≡ readForwardFace (now (links .entry)) (now (values .entry)) (now (book .entry)) list (now (out .entry)) at ⌝ }
 {
     let answer = shares::reads::read_words(links, values, End::Front, book, list, out, at);
     let refusal = answer.refusal;
     *count = answer.count;
+    *place = [refusal.list, refusal.position];
     refusal.number
 }
 
@@ -54,11 +71,13 @@ pub extern "C" fn flailreeve_read_backward(
     out: &mut [u64],
     at: usize,
     count: &mut u16,
+    place: &mut [u16; 2],
 ) -> u16
-    ensures { λ r. ⌜ shown r (now (count .exit)) (now (out .exit)) ≡ readBackwardFace (now (links .entry)) (now (values .entry)) (now (book .entry)) list (now (out .entry)) at ⌝ }
+    ensures { λ r. ⌜ shown r (placeFrom (now (place .exit))) (now (count .exit)) (now (out .exit)) ≡ readBackwardFace (now (links .entry)) (now (values .entry)) (now (book .entry)) list (now (out .entry)) at ⌝ }
 {
     let answer = shares::reads::read_words(links, values, End::Back, book, list, out, at);
     let refusal = answer.refusal;
     *count = answer.count;
+    *place = [refusal.list, refusal.position];
     refusal.number
 }

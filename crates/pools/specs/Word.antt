@@ -1,15 +1,26 @@
--- What a look tells, as one number. From the low end, 16 bits each: the number that the call answers with, the length of the list that is asked for, what the lists lack of their shares, and the free slots.
-use Prim.Native.Nat.{ℕ, _/_, _%_}
+-- What a look tells, as one number. From the low end, 16 bits each: the number that the call answers with; where it is 0 the length of the list that is asked for, what the lists lack of their shares, and the free slots; and else the list and the position of its place.
+use mathlib.Core.Logic.{_≢_}
+use mathlib.Core.Bool.{cond}
+use Prim.Native.Nat.{ℕ, _/_, _%_, _<_}
+use lib.Dec.{eqb}
+use Rattle.books.specs.Place.{refusalOf}
 use Rattle.shapes.specs.declared.Looked.{Looked}
-use Rattle.shapes.specs.Faults.{noFault}
+use Rattle.shapes.specs.Faults.{noFault, lookedFine, refusedBy}
 
 -- 0, and what the check found in a sound pool
 abbrev pub fine : ℕ → ℕ → ℕ → Looked
-fine length lacks free = record { refusal = record { number = 0 }; found = record { fault = noFault; length = length; lacks = lacks; free = free } }
+fine length lacks free = lookedFine (record { fault = noFault; length = length; lacks = lacks; free = free })
+
+-- a number with its place, and nothing found
+abbrev pub brokenAt : ℕ → ℕ → ℕ → Looked
+brokenAt number list position = refusedBy (refusalOf number (record { list = list; position = position }))
 
 abbrev pub toldBy : ℕ → Looked
 toldBy word =
-    record {
-      refusal = record { number = word % 65536 };
-      found = record { fault = noFault; length = word / 65536 % 65536; lacks = word / 65536 / 65536 % 65536; free = word / 65536 / 65536 / 65536 };
-    }
+    cond (eqb (word % 65536) 0)
+    (fine (word / 65536 % 65536) (word / 65536 / 65536 % 65536) (word / 65536 / 65536 / 65536))
+    (brokenAt (word % 65536) (word / 65536 % 65536) (word / 65536 / 65536 % 65536))
+
+-- a word that tells a number has nothing above the place, so that no other word tells the same
+abbrev pub NoMore : ℕ → Type 0
+NoMore word = word % 65536 ≢ 0 → word < 281474976710656

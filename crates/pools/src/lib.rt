@@ -6,7 +6,8 @@ ghost use Rattle.books.specs.Test.{sizeFits};
 
 mod book;
 pub mod check;
-mod word;
+mod gather;
+pub mod word;
 pub mod words;
 
 // Number 1 is given exactly where this is false.

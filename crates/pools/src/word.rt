@@ -4,36 +4,60 @@ use shapes::Fault;
 use shapes::Found;
 use shapes::Looked;
 ghost use mathlib.Core.Path.{_≡_};
+ghost use mathlib.Core.Logic.{_≢_};
 ghost use Prim.Native.Nat.{_<_};
-ghost use Rattle.pools.specs.Word.{toldBy, fine};
+ghost use Rattle.pools.specs.Word.{toldBy, fine, brokenAt, NoMore};
 
 // The number 0, and what was found in a sound pool.
 pub(crate) fn word_of(length: usize, lacks: usize, free: usize) -> usize
     requires { ⌜ (length < 65536) × (lacks < 65536) × (free < 65536) ⌝ }
-    ensures { λ r. ⌜ toldBy r ≡ fine length lacks free ⌝ }
+    ensures { λ r. ⌜ (toldBy r ≡ fine length lacks free) × NoMore r ⌝ }
 {
     65536 * (length + 65536 * (lacks + 65536 * free))
 }
 
+// The rule that is first broken, with its list and position.
+pub(crate) fn fault_word(rule: u16, list: u16, place: usize) -> usize
+    requires { ⌜ (rule ≢ 0) × (place < 65536) ⌝ }
+    ensures { λ r. ⌜ (toldBy r ≡ brokenAt rule list place) × NoMore r ⌝ }
+{
+    rules::wide(rule) + 65536 * (rules::wide(list) + 65536 * place)
+}
+
 // What the number tells.
-pub(crate) fn told(word: usize) -> Looked
+pub fn told(word: usize) -> Looked
     ensures { λ r. ⌜ r ≡ toldBy word ⌝ }
 {
+    let number = (word % 65536) as u16;
     let found = word / 65536;
     let spare = found / 65536;
+    let fault = Fault {
+        rule: 0,
+        list: 0,
+        place: 0,
+    };
+    if number == 0 {
+        return Looked {
+            refusal: Refusal::numbered(number),
+            found: Found {
+                fault,
+                length: found % 65536,
+                lacks: spare % 65536,
+                free: spare / 65536,
+            },
+        };
+    }
     Looked {
         refusal: Refusal {
-            number: (word % 65536) as u16,
+            number,
+            list: (found % 65536) as u16,
+            position: (spare % 65536) as u16,
         },
         found: Found {
-            fault: Fault {
-                rule: 0,
-                list: 0,
-                place: 0,
-            },
-            length: found % 65536,
-            lacks: spare % 65536,
-            free: spare / 65536,
+            fault,
+            length: 0,
+            lacks: 0,
+            free: 0,
         },
     }
 }

@@ -12,6 +12,8 @@ use Rattle.books.specs.declared.Answer.{Answer}
 use Rattle.books.specs.declared.Popped.{Popped}
 use Rattle.books.specs.declared.Length.{Length}
 use Rattle.books.specs.declared.Read.{Read}
+use Rattle.books.specs.Place.{Place, refusalOf, numbered}
+use Rattle.books.specs.declared.Refusal.{Refusal}
 use Rattle.books.specs.Book.{entryAt, AnyBook, eight, bookOf, wordsOf}
 use Rattle.books.specs.Words.{bookFrom}
 use Rattle.books.proofs.Flat.{book-kept}
@@ -22,6 +24,7 @@ use Rattle.shapes.specs.declared.Found.{Found}
 use Rattle.shapes.specs.declared.Looked.{Looked}
 use Rattle.shapes.specs.Ends.{nearOf}
 use Rattle.shapes.specs.Changes.{withList}
+use Rattle.shapes.specs.Faults.{answering}
 use Rattle.shapes.specs.Numbers.{Test, firstThat}
 use Rattle.shapes.specs.Tests.{pushOwnTests, popOwnTests, readOwnTests, readLeft, readOf}
 use Rattle.engines.specs.Engine.{Step}
@@ -30,7 +33,7 @@ use Rattle.engines.specs.Reads.{countRead, bufferAfter}
 use Rattle.engines.specs.Calls.{foundOf, notCalled, stepped, onListOf, lengthCall, pushCall, popCall, clearCall, readCall}
 use Rattle.engines.specs.OnList.{OnList, onList, pushOn, popOn, putBack}
 use Rattle.engines.proofs.OnList.{push-on-list, pop-on-list}
-use Rattle.engines.proofs.Looking.{on-list-found, on-list-below, on-list-length, read-count, by-list, by-call, goes}
+use Rattle.engines.proofs.Looking.{on-list-place, own-place, on-list-found, on-list-below, on-list-length, read-count, by-list, by-call, goes}
 use Rattle.xor.specs.Along.{clearOnList}
 use Rattle.xor.specs.Engine.{xor}
 use Rattle.xor.specs.Ten.{asAnswer, asPopped}
@@ -48,17 +51,18 @@ look-of-words links values book l h w e =
     e ∙ ap (λ (b : Book). lookOf xor l links values (eight b)) (words-book book h w)
 
 -- the test of the list's number, with how many lists there are read from the words
-pub early-in-words : (number l : ℕ) {early lists lists′ : ℕ} → lists ≡ lists′ → early ≡ cond (eqb number 0 && leb lists l) 4 number → early ≡ cond (eqb number 0 && leb lists′ l) 4 number
-early-in-words number l e n = rw e at n
+pub early-in-words : (refusal : Refusal) (l : ℕ) {early : Refusal} {lists lists′ : ℕ} → lists ≡ lists′ → early ≡ cond (eqb (refusal .number) 0 && leb lists l) (numbered 4) refusal
+    → early ≡ cond (eqb (refusal .number) 0 && leb lists′ l) (numbered 4) refusal
+early-in-words refusal l e n = rw e at n
 
 -- the answer of a call that changes the book, and of a pop
-abbrev answer : ℕ → Book → Answer
-answer number book = record { refusal = record { number = number }; book = book }
+abbrev answer : Refusal → Book → Answer
+answer refusal book = record { refusal = refusal; book = book }
 
-abbrev popped : ℕ → ℕ → Book → Popped
-popped number value book = record { given = record { refusal = record { number = number }; value = value }; book = book }
+abbrev popped : Refusal → ℕ → Book → Popped
+popped refusal value book = record { given = record { refusal = refusal; value = value }; book = book }
 
--- `seen` is what the test of 1, 3 and 4 gave
+-- `seen` is what the test of 1, 9 to 15 and 4 gave
 module _ (links values : List ℕ) (b : AnyBook) (l : ℕ) (seen : Looked) (e : seen ≡ onListOf xor links values b l) where
   -- the tests of a push, a pop and a read of their own
   abbrev pushOwn : Found → ℕ → List Test
@@ -70,31 +74,35 @@ module _ (links values : List ℕ) (b : AnyBook) (l : ℕ) (seen : Looked) (e : 
   abbrev readOwn : List ℕ → ℕ → Found → List Test
   readOwn buffer at f = readOwnTests (f .length) (length buffer) at
 
-  -- ---- 1, 3 or 4 applies
+  -- ---- 1, 9 to 15 or 4 applies
 
   module _ (d : seen .refusal .number ≢ 0) where
     applies : onListOf xor links values b l .refusal .number ≢ 0
     applies = rw e at d
 
+    -- the answer, and what the call makes of its number
+    whole : seen .refusal ≡ answering (foundOf xor links values b l .fault) (onListOf xor links values b l .refusal .number)
+    whole = ap (λ (x : Looked). x .refusal) e ∙ on-list-place xor links values b l applies
+
     pub length-early : _≡_ {A = Length} (record { refusal = seen .refusal; length = 0 }) (lengthCall xor links values b l)
     unfolding lengthCall
-    length-early = rw e (sym (by-list xor links values b l [] _ _ applies))
+    length-early = rw whole (sym (by-list xor links values b l [] _ _ applies))
 
-    pub clear-early : outcome (answer (seen .refusal .number) (bookOf b)) links values ≡ asAnswer (clearCall xor links values b l)
+    pub clear-early : outcome (answer (seen .refusal) (bookOf b)) links values ≡ asAnswer (clearCall xor links values b l)
     unfolding clearCall
-    clear-early = rw e (ap asAnswer (sym (by-list xor links values b l [] _ (notCalled xor links values b) applies)))
+    clear-early = rw whole (ap asAnswer (sym (by-list xor links values b l [] _ (notCalled xor links values b (foundOf xor links values b l .fault)) applies)))
 
-    pub push-early : (end : End) (value : ℕ) → outcome (answer (seen .refusal .number) (bookOf b)) links values ≡ asAnswer (pushCall xor links values b l end value)
+    pub push-early : (end : End) (value : ℕ) → outcome (answer (seen .refusal) (bookOf b)) links values ≡ asAnswer (pushCall xor links values b l end value)
     unfolding pushCall
-    push-early end value = rw e (ap asAnswer (sym (by-list xor links values b l (pushOwn (foundOf xor links values b l) l) _ (notCalled xor links values b) applies)))
+    push-early end value = rw whole (ap asAnswer (sym (by-list xor links values b l (pushOwn (foundOf xor links values b l) l) _ (notCalled xor links values b (foundOf xor links values b l .fault)) applies)))
 
-    pub pop-early : (end : End) {r : Popped} → r ≡ popped (seen .refusal .number) 0 (bookOf b) → outcome r links values ≡ asPopped (popCall xor links values b l end)
+    pub pop-early : (end : End) {r : Popped} → r ≡ popped (seen .refusal) 0 (bookOf b) → outcome r links values ≡ asPopped (popCall xor links values b l end)
     unfolding popCall
-    pop-early end p = rw (p, e) (ap asPopped (sym (by-list xor links values b l (popOwn (foundOf xor links values b l)) _ (notCalled xor links values b) applies)))
+    pop-early end p = rw (p, whole) (ap asPopped (sym (by-list xor links values b l (popOwn (foundOf xor links values b l)) _ (notCalled xor links values b (foundOf xor links values b l .fault)) applies)))
 
-    pub read-early : (end : End) (buffer : List ℕ) (at : ℕ) {r : Read} → r ≡ readOf (seen .refusal .number) 0 → readLeft r buffer ≡ readCall xor links values b l end buffer at
+    pub read-early : (end : End) (buffer : List ℕ) (at : ℕ) {r : Read} → r ≡ readOf (seen .refusal) 0 → readLeft r buffer ≡ readCall xor links values b l end buffer at
     unfolding readCall
-    read-early end buffer at p = rw (p, e) (sym (by-list xor links values b l (readOwn buffer at (foundOf xor links values b l)) _ (λ n. readLeft (readOf n 0) buffer) applies))
+    read-early end buffer at p = rw (p, whole) (sym (by-list xor links values b l (readOwn buffer at (foundOf xor links values b l)) _ (λ n. readLeft (readOf (answering (foundOf xor links values b l .fault) n) 0) buffer) applies))
 
   -- ---- none of them applies
 
@@ -113,7 +121,7 @@ module _ (links values : List ℕ) (b : AnyBook) (l : ℕ) (seen : Looked) (e : 
     pub short : seen .found .length < 4096
     short = omega (arith, ap (λ (f : Found). f .length) found, on-list-length xor links values b l xor-lawful passes)
 
-    pub length-went : _≡_ {A = Length} (record { refusal = record { number = 0 }; length = seen .found .length }) (lengthCall xor links values b l)
+    pub length-went : _≡_ {A = Length} (record { refusal = numbered 0; length = seen .found .length }) (lengthCall xor links values b l)
     unfolding lengthCall
     length-went = rw found (sym (goes xor links values b l [] _ _ passes refl))
 
@@ -121,11 +129,11 @@ module _ (links values : List ℕ) (b : AnyBook) (l : ℕ) (seen : Looked) (e : 
     module _ {k : ℕ} (p : k ≡ l) {r : ListChange} {newLinks newValues : List ℕ} {after : Book} (h : after ≡ bookOf (withList b k (r .entry) (r .free))) (end : End) where
       pub push-put : (value : ℕ)
           → onList r 0 newLinks newValues ≡ pushOn xor links values (entryAt (b .entries) k) (b .free) (seen .found) end value
-          → outcome (answer (r .number) after) newLinks newValues ≡ asAnswer (pushCall xor links values b l end value)
+          → outcome (answer (numbered (r .number)) after) newLinks newValues ≡ asAnswer (pushCall xor links values b l end value)
       push-put value q =
           rw (h, p) (ap (λ (x : OnList xor). asAnswer (putBack b l x)) (rw (p, found) at q) ∙ ap asAnswer (sym (push-on-list xor links values b l passes end value)))
 
-      pub pop-put : {value : ℕ} {whole : Popped} → whole ≡ popped (r .number) value after
+      pub pop-put : {value : ℕ} {whole : Popped} → whole ≡ popped (numbered (r .number)) value after
           → onList r value newLinks newValues ≡ popOn xor links values (entryAt (b .entries) k) (b .free) (seen .found) end
           → outcome whole newLinks newValues ≡ asPopped (popCall xor links values b l end)
       pop-put w q =
@@ -133,22 +141,27 @@ module _ (links values : List ℕ) (b : AnyBook) (l : ℕ) (seen : Looked) (e : 
 
     pub clear-put : {k : ℕ} → k ≡ l → {r : ListChange} {newLinks newValues : List ℕ} {after : Book} → after ≡ bookOf (withList b k (r .entry) (r .free))
         → onList r 0 newLinks newValues ≡ clearOnList links values (entryAt (b .entries) k) (b .free) (seen .found)
-        → outcome (answer (r .number) after) newLinks newValues ≡ asAnswer (clearCall xor links values b l)
+        → outcome (answer (numbered (r .number)) after) newLinks newValues ≡ asAnswer (clearCall xor links values b l)
     unfolding clearCall
     clear-put p h q =
         rw (h, p)
         (ap (λ (x : OnList xor). asAnswer (putBack b l x)) (rw (p, found) at q)
         ∙ ap (λ (x : Step (List ℕ)). asAnswer (stepped xor links values b l 0 x)) (sym (clear-found links values b l passes))
-        ∙ ap asAnswer (sym (goes xor links values b l [] _ (notCalled xor links values b) passes refl)))
+        ∙ ap asAnswer (sym (goes xor links values b l [] _ (notCalled xor links values b (foundOf xor links values b l .fault)) passes refl)))
 
     -- a read's
     module _ (end : End) (buffer : List ℕ) (at : ℕ) (number : ℕ) (t : number ≡ firstThat (readOwn buffer at (seen .found))) where
       own-read : number ≡ firstThat (readOwn buffer at (foundOf xor links values b l))
       own-read = t ∙ ap (λ (f : Found). firstThat (readOwn buffer at f)) found
 
-      pub read-full : number ≢ 0 → {r : Read} → r ≡ readOf number 0 → readLeft r buffer ≡ readCall xor links values b l end buffer at
+      pub read-full : number ≢ 0 → {r : Read} → r ≡ readOf (numbered number) 0 → readLeft r buffer ≡ readCall xor links values b l end buffer at
       unfolding readCall
-      read-full d h = rw (h, own-read) (sym (by-call xor links values b l (readOwn buffer at (foundOf xor links values b l)) _ (λ n. readLeft (readOf n 0) buffer) passes (rw own-read at d)))
+      read-full d h =
+          let k = rw own-read at d in
+          let p = own-place xor links values b l _ k passes in
+          rw (h, own-read)
+          (ap (λ (x : Place). readLeft (readOf (refusalOf (firstThat (readOwn buffer at (foundOf xor links values b l))) x) 0) buffer) (sym p)
+          ∙ sym (by-call xor links values b l (readOwn buffer at (foundOf xor links values b l)) _ (λ n. readLeft (readOf (answering (foundOf xor links values b l .fault) n) 0) buffer) passes k))
 
       module _ (n : number ≡ 0) (k start : ℕ) (p : k ≡ l) (s : start ≡ nearOf end (entryAt (b .entries) k)) where
         from : start ≡ nearOf end (entryAt (b .entries) l)
@@ -158,7 +171,7 @@ module _ (links values : List ℕ) (b : AnyBook) (l : ℕ) (seen : Looked) (e : 
         read-count-fits h = omega (arith, h, ap (λ (x : ℕ). countRead xor end links values x buffer at) from, read-count xor links values b l xor-lawful end buffer at passes (sym own-read ∙ n))
 
         pub read-went : {count : ℕ} {left : List ℕ} → (count ≡ countRead xor end links values start buffer at) × (left ≡ bufferAfter xor end links values start buffer at)
-            → readLeft (readOf 0 count) left ≡ readCall xor links values b l end buffer at
+            → readLeft (readOf (numbered 0) count) left ≡ readCall xor links values b l end buffer at
         unfolding readCall
         read-went (h, g) =
-            rw (h, g, from) (sym (goes xor links values b l (readOwn buffer at (foundOf xor links values b l)) _ (λ n. readLeft (readOf n 0) buffer) passes (sym own-read ∙ n)))
+            rw (h, g, from) (sym (goes xor links values b l (readOwn buffer at (foundOf xor links values b l)) _ (λ n. readLeft (readOf (answering (foundOf xor links values b l .fault) n) 0) buffer) passes (sym own-read ∙ n)))

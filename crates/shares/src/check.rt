@@ -5,7 +5,7 @@ ghost use mathlib.Core.Path.{_≡_};
 ghost use Rattle.books.specs.Words.{bookFrom};
 ghost use Rattle.xor.specs.Ten.{checkOf};
 
-// Is the pool sound? 0 where it is; 1 where the sizes do not fit, 3 where it is not sound. Neither the pool nor the book changes.
+// Is the pool sound? 0 where it is; 1 where the sizes do not fit; else the rule that is first broken, 9 to 15, with its place. Neither the pool nor the book changes.
 pub fn check(links: &[u16], values: &[u64], book: Book) -> Refusal
     ensures { λ r. ⌜ r ≡ checkOf (now (links .entry)) (now (values .entry)) book ⌝ }
 {
@@ -17,6 +17,7 @@ pub fn check(links: &[u16], values: &[u64], book: Book) -> Refusal
 pub fn check_words(links: &[u16], values: &[u64], words: &[u16; 34]) -> Refusal
     ensures { λ r. ⌜ r ≡ checkOf (now (links .entry)) (now (values .entry)) (bookFrom (now (words .entry))) ⌝ }
 {
-    let seen = pools::check::look(links, values, words, 0);
+    let word = pools::check::look(links, values, words, 0);
+    let seen = pools::word::told(word);
     seen.refusal
 }

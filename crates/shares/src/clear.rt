@@ -8,17 +8,18 @@ ghost use mathlib.Core.Path.{_≡_};
 ghost use Rattle.books.specs.Outcome.{outcome};
 ghost use Rattle.xor.specs.Ten.{clearOf};
 
-// Refused by 1, 3 or 4; the book comes back as it went in then, and neither slice changes. An empty list is cleared too.
+// Refused by 1, 9 to 15 or 4; the book comes back as it went in then, and neither slice changes. An empty list is cleared too.
 pub fn clear(links: &mut [u16], values: &mut [u64], book: Book, list: u16) -> Answer
     ensures { λ r. ⌜ outcome r (now (links .exit)) (now (values .exit)) ≡ clearOf (now (links .entry)) (now (values .entry)) book list ⌝ }
 {
     let words = words_of(book);
-    let seen = pools::check::look(links, values, &words, list);
+    let word = pools::check::look(links, values, &words, list);
+    let seen = pools::word::told(word);
     let refusal = seen.refusal;
-    let early = crate::refusals::list_number(refusal.number, book.lists, list);
-    if early != 0 {
+    let early = crate::refusals::list_refusal(refusal, book.lists, list);
+    if early.number != 0 {
         return Answer {
-            refusal: Refusal { number: early },
+            refusal: early,
             book,
         };
     }
@@ -30,6 +31,8 @@ pub fn clear(links: &mut [u16], values: &mut [u64], book: Book, list: u16) -> An
     Answer {
         refusal: Refusal {
             number: gone.number,
+            list: 0,
+            position: 0,
         },
         book: with_list(book, k, gone.entry, gone.free),
     }

@@ -14,7 +14,7 @@ ghost use Rattle.engines.specs.Calls.{pushCall, popCall};
 ghost use Rattle.xor.specs.Engine.{xor};
 ghost use Rattle.xor.specs.Ten.{asAnswer, asPopped, pushBackOf, pushFrontOf, popBackOf, popFrontOf};
 
-// Refused by 1, 3, 4, 6 or 7; the book comes back as it went in then, and neither slice changes.
+// Refused by 1, 9 to 15, 4, 6 or 7; the book comes back as it went in then, and neither slice changes.
 pub fn push_back(links: &mut [u16], values: &mut [u64], book: Book, list: u16, value: u64) -> Answer
     ensures { λ r. ⌜ outcome r (now (links .exit)) (now (values .exit)) ≡ pushBackOf (now (links .entry)) (now (values .entry)) book list value ⌝ }
 {
@@ -34,7 +34,7 @@ pub fn push_front(
     push(links, values, End::Front, book, list, value)
 }
 
-// Refused by 1, 3, 4 or 5; value 0 and the book as it went in come back then, and neither slice changes.
+// Refused by 1, 9 to 15, 4 or 5; value 0 and the book as it went in come back then, and neither slice changes.
 pub fn pop_back(links: &mut [u16], values: &mut [u64], book: Book, list: u16) -> Popped
     ensures { λ r. ⌜ outcome r (now (links .exit)) (now (values .exit)) ≡ popBackOf (now (links .entry)) (now (values .entry)) book list ⌝ }
 {
@@ -60,12 +60,13 @@ fn push(
     ensures { λ r. ⌜ outcome r (now (links .exit)) (now (values .exit)) ≡ asAnswer (pushCall xor (now (links .entry)) (now (values .entry)) (eight book) list end value) ⌝ }
 {
     let words = words_of(book);
-    let seen = pools::check::look(links, values, &words, list);
+    let word = pools::check::look(links, values, &words, list);
+    let seen = pools::word::told(word);
     let refusal = seen.refusal;
-    let early = crate::refusals::list_number(refusal.number, book.lists, list);
-    if early != 0 {
+    let early = crate::refusals::list_refusal(refusal, book.lists, list);
+    if early.number != 0 {
         return Answer {
-            refusal: Refusal { number: early },
+            refusal: early,
             book,
         };
     }
@@ -77,6 +78,8 @@ fn push(
     Answer {
         refusal: Refusal {
             number: gone.number,
+            list: 0,
+            position: 0,
         },
         book: with_list(book, k, gone.entry, gone.free),
     }
@@ -86,10 +89,11 @@ fn pop(links: &mut [u16], values: &mut [u64], end: End, book: Book, list: u16) -
     ensures { λ r. ⌜ outcome r (now (links .exit)) (now (values .exit)) ≡ asPopped (popCall xor (now (links .entry)) (now (values .entry)) (eight book) list end) ⌝ }
 {
     let words = words_of(book);
-    let seen = pools::check::look(links, values, &words, list);
+    let word = pools::check::look(links, values, &words, list);
+    let seen = pools::word::told(word);
     let refusal = seen.refusal;
-    let early = crate::refusals::list_number(refusal.number, book.lists, list);
-    if early != 0 {
+    let early = crate::refusals::list_refusal(refusal, book.lists, list);
+    if early.number != 0 {
         return popped(early, 0, book);
     }
     let found = seen.found;
@@ -99,20 +103,21 @@ fn pop(links: &mut [u16], values: &mut [u64], end: End, book: Book, list: u16) -
     let mut value: u64 = 0;
     let gone = crate::core::pop(links, values, end, entry, free, found, &mut value);
     popped(
-        gone.number,
+        Refusal {
+            number: gone.number,
+            list: 0,
+            position: 0,
+        },
         value,
         with_list(book, k, gone.entry, gone.free),
     )
 }
 
-fn popped(number: u16, value: u64, book: Book) -> Popped
-    ensures { λ r. ⌜ r ≡ record { given = record { refusal = record { number = number }; value = value }; book = book } ⌝ }
+fn popped(refusal: Refusal, value: u64, book: Book) -> Popped
+    ensures { λ r. ⌜ r ≡ record { given = record { refusal = refusal; value = value }; book = book } ⌝ }
 {
     Popped {
-        given: Value {
-            refusal: Refusal { number },
-            value,
-        },
+        given: Value { refusal, value },
         book,
     }
 }

@@ -1,5 +1,5 @@
 // Length, read forward and read backward, which change neither the pool nor the book.
-use crate::refusals::list_number;
+use crate::refusals::list_refusal;
 use books::Book;
 use books::Length;
 use books::Read;
@@ -16,7 +16,7 @@ ghost use Rattle.engines.specs.Calls.{readCall};
 ghost use Rattle.xor.specs.Engine.{xor};
 ghost use Rattle.xor.specs.Ten.{lengthOf, readForwardOf, readBackwardOf};
 
-// How many slots a list has. Refused by 1, 3 or 4, with length 0.
+// How many slots a list has. Refused by 1, 9 to 15 or 4, with length 0.
 pub fn length(links: &[u16], values: &[u64], book: Book, list: u16) -> Length
     ensures { λ r. ⌜ r ≡ lengthOf (now (links .entry)) (now (values .entry)) book list ⌝ }
 {
@@ -24,7 +24,7 @@ pub fn length(links: &[u16], values: &[u64], book: Book, list: u16) -> Length
     length_words(links, values, &words, list)
 }
 
-// The list's values from the front on, into `buffer` from place `at` on. Refused by 1, 3, 4 or 8, with count 0, and the buffer as it was.
+// The list's values from the front on, into `buffer` from place `at` on. Refused by 1, 9 to 15, 4 or 8, with count 0, and the buffer as it was.
 pub fn read_forward(
     links: &[u16],
     values: &[u64],
@@ -58,19 +58,24 @@ pub fn read_backward(
 pub fn length_words(links: &[u16], values: &[u64], words: &[u16; 34], list: u16) -> Length
     ensures { λ r. ⌜ r ≡ lengthOf (now (links .entry)) (now (values .entry)) (bookFrom (now (words .entry))) list ⌝ }
 {
-    let seen = pools::check::look(links, values, words, list);
+    let word = pools::check::look(links, values, words, list);
+    let seen = pools::word::told(word);
     let refusal = seen.refusal;
-    let early = list_number(refusal.number, lists_of(words), list);
-    if early != 0 {
+    let early = list_refusal(refusal, lists_of(words), list);
+    if early.number != 0 {
         return Length {
-            refusal: Refusal { number: early },
+            refusal: early,
             length: 0,
         };
     }
     let found = seen.found;
     let many = found.length as u16;
     Length {
-        refusal: Refusal { number: 0 },
+        refusal: Refusal {
+            number: 0,
+            list: 0,
+            position: 0,
+        },
         length: many,
     }
 }
@@ -87,31 +92,37 @@ pub fn read_words(
 ) -> Read
     ensures { λ r. ⌜ readLeft r (now (buffer .exit)) ≡ readCall xor (now (links .entry)) (now (values .entry)) (eight (bookFrom (now (words .entry)))) list end (now (buffer .entry)) at ⌝ }
 {
-    let seen = pools::check::look(links, values, words, list);
+    let word = pools::check::look(links, values, words, list);
+    let seen = pools::word::told(word);
     let refusal = seen.refusal;
-    let early = list_number(refusal.number, lists_of(words), list);
-    if early != 0 {
+    let early = list_refusal(refusal, lists_of(words), list);
+    if early.number != 0 {
         return refused(early);
     }
     let found = seen.found;
     let number = crate::refusals::read_number(found.length, buffer.len(), at);
     if number != 0 {
-        return refused(number);
+        return refused(Refusal {
+            number,
+            list: 0,
+            position: 0,
+        });
     }
     let start = lists::near_of(end, entry_of(words, list));
     let count = walks::reads::read(links, values, start, buffer, at);
     let many = count as u16;
     Read {
-        refusal: Refusal { number: 0 },
+        refusal: Refusal {
+            number: 0,
+            list: 0,
+            position: 0,
+        },
         count: many,
     }
 }
 
-fn refused(number: u16) -> Read
-    ensures { λ r. ⌜ r ≡ readOf number 0 ⌝ }
+fn refused(refusal: Refusal) -> Read
+    ensures { λ r. ⌜ r ≡ readOf refusal 0 ⌝ }
 {
-    Read {
-        refusal: Refusal { number },
-        count: 0,
-    }
+    Read { refusal, count: 0 }
 }

@@ -1,21 +1,28 @@
-// Which number a call on a list is refused by, in 01's order: 1, 3 and 4 first, then what the call itself asks for.
+// Which number a call on a list is refused by, in order: 1, 9 to 15 and 4 first, then what the call itself asks for.
 use books::Entry;
+use books::Refusal;
 ghost use mathlib.Core.Path.{_≡_};
 ghost use mathlib.Core.Bool.{cond, _&&_};
 ghost use lib.Dec.{leb, eqb};
+ghost use Rattle.books.specs.Place.{numbered};
 ghost use Rattle.shapes.specs.Numbers.{firstThat};
 ghost use Rattle.shapes.specs.Tests.{pushOwnTests, popOwnTests, readOwnTests};
 
-// The number after the check and the test of the list: 1 or 3 where the check gave it; else 4 where there is no such list; else 0.
-pub(crate) fn list_number(number: u16, lists: u16, list: u16) -> u16
-    ensures { λ r. ⌜ r ≡ cond (eqb number 0 && leb lists list) 4 number ⌝ }
+// The answer after the check and the test of the list: 1, or the broken rule with its place, where the check gave it; else 4 where there is no
+// such list; else 0.
+pub(crate) fn list_refusal(refusal: Refusal, lists: u16, list: u16) -> Refusal
+    ensures { λ r. ⌜ r ≡ cond (eqb (refusal .number) 0 && leb lists list) (numbered 4) refusal ⌝ }
 {
-    if number == 0 {
+    if refusal.number == 0 {
         if lists <= list {
-            return 4;
+            return Refusal {
+                number: 4,
+                list: 0,
+                position: 0,
+            };
         }
     }
-    number
+    refusal
 }
 
 // 6 or 7 for a push on a list that has `many` slots; else 0.

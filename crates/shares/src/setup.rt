@@ -7,6 +7,7 @@ use books::Refusal;
 ghost use mathlib.Core.Path.{_≡_};
 ghost use Prim.Native.Nat.{_≤_};
 ghost use lib.ListN.{length, take, drop};
+ghost use Rattle.books.specs.Place.{numbered};
 ghost use Rattle.books.specs.Tabulate.{tabulate};
 ghost use Rattle.books.specs.Outcome.{outcome};
 ghost use Rattle.books.specs.Test.{gather, allZero, keepsRules};
@@ -33,7 +34,11 @@ pub fn setup(
         return refused(number);
     }
     Answer {
-        refusal: Refusal { number },
+        refusal: Refusal {
+            number,
+            list: 0,
+            position: 0,
+        },
         book: fresh_book(lists, shares, limits),
     }
 }
@@ -115,10 +120,14 @@ fn rest_zero(shares: &[u16; 8], limits: &[u16; 8], from: usize) -> bool
 }
 
 fn refused(number: u16) -> Answer
-    ensures { λ r. ⌜ r ≡ record { refusal = record { number = number }; book = zeroBook } ⌝ }
+    ensures { λ r. ⌜ r ≡ record { refusal = numbered number; book = zeroBook } ⌝ }
 {
     Answer {
-        refusal: Refusal { number },
+        refusal: Refusal {
+            number,
+            list: 0,
+            position: 0,
+        },
         book: Book::zero(),
     }
 }

@@ -19,20 +19,20 @@ use Rattle.abi.proofs.changes.flailreeve_push_front.Statement.{statemen
 use Rattle.abi.proofs.changes.flailreeve_push_front.Tie as tie
 
 -- before the check
-abbrev start : tie.After-look → tie.Start
-start c = c .before .before .before .before .before .before
+abbrev start : tie.After-told → tie.Start
+start c = c .before .before .before .before .before .before .before .before
 
 returns : tie.Need-returns
 returns c =
-    let at = c .before .before .before in
-    let e = check-stops _ _ (now (start at .args .book)) _ _ (at .look .ensures) (c .if1 .taken) in
-    changed-by _ refl (sym (kept-refused _ _ _ (c .if1 .taken))) (push-early _ _ _ _ _ e (c .if1 .taken) Front (start at .args .value))
+    let at = c .before .before .before .before in
+    let e = check-stops _ _ (now (start at .args .book)) _ _ (at .told .ensures ∙ at .before .look .ensures .0) (c .before .if1 .taken) in
+    changed-by _ refl refl (sym (kept-refused _ _ _ (c .before .if1 .taken))) (push-early _ _ _ _ _ e (c .before .if1 .taken) Front (start at .args .value))
 
 returns-2 : tie.Need-returns-2
 returns-2 c =
     let at = c .before .before .before .before .before .before in
-    let e = list-stops _ _ (now (start at .args .book)) _ _ (at .look .ensures) (c .before .before .before .if1 .left) _ (c .before .has-list .ensures) (not-true (c .before .has-list .result) (c .if2 .taken)) in
-    changed-by _ refl (sym (kept-refused _ _ _ four)) (push-early _ _ _ _ _ e four Front (start at .args .value))
+    let e = list-stops _ _ (now (start at .args .book)) _ _ (at .told .ensures ∙ at .before .look .ensures .0) (c .before .before .before .if1 .left) _ (c .before .has-list .ensures) (not-true (c .before .has-list .result) (c .if2 .taken)) in
+    changed-by _ refl refl (sym (kept-refused _ _ _ four)) (push-early _ _ _ _ _ e four Front (start at .args .value))
 
 keep-requires : tie.Need-keep-requires
 keep-requires c κs = push-grants _ _ _ _ _ _ _ (c .before .before .before .before .before .push .ensures) (c .before .before .before .before .before .before .before .before .before .before .entry-of .ensures)
@@ -43,17 +43,18 @@ returns-3 c =
     let past = c .before .before .before .before .before .before .before .before .before .before .before .before .before .before in
     let at = past .before .before .before .before .before .before in
     let a = start at .args in
-    let (e, z) = list-passes _ _ (now (a .book)) _ _ (at .look .ensures) (past .before .before .before .if1 .left) _ (past .before .has-list .ensures) (not-false (past .before .has-list .result) (past .if2 .left)) in
+    let (e, z) = list-passes _ _ (now (a .book)) _ _ (at .told .ensures ∙ at .before .look .ensures .0) (past .before .before .before .if1 .left) _ (past .before .has-list .ensures) (not-false (past .before .has-list .result) (past .if2 .left)) in
     let q =
     gone .push .ensures
-    ∙ ap (λ (x : Entry). pushOn xor (now (a .links)) (now (a .values)) x (c .before .before .before .before .before .before .before .before .before .free-of .result) (at .look .result .found) Front (a .value)) (c .before .before .before .before .before .before .before .before .before .before .before .entry-of .ensures)
-    ∙ ap (λ (x : Free). pushOn xor (now (a .links)) (now (a .values)) (entryAt (bookFrom (now (a .book)) .entries) (a .list)) x (at .look .result .found) Front (a .value)) (c .before .before .before .before .before .before .before .before .before .free-of .ensures) in
-    changed-by _ (c .keep .ensures .0) (c .keep .ensures .1) (push-put _ _ _ _ _ e z refl refl Front (a .value) q)
+    ∙ ap (λ (x : Entry). pushOn xor (now (a .links)) (now (a .values)) x (c .before .before .before .before .before .before .before .before .before .free-of .result) (at .told .result .found) Front (a .value)) (c .before .before .before .before .before .before .before .before .before .before .before .entry-of .ensures)
+    ∙ ap (λ (x : Free). pushOn xor (now (a .links)) (now (a .values)) (entryAt (bookFrom (now (a .book)) .entries) (a .list)) x (at .told .result .found) Front (a .value)) (c .before .before .before .before .before .before .before .before .before .free-of .ensures) in
+    changed-by _ (c .keep .ensures .0) refl (c .keep .ensures .1) (push-put _ _ _ _ _ e z refl refl Front (a .value) q)
 
 pub flailreeve-push-front-spec : {M : Type 1} → statement M
 flailreeve-push-front-spec =
     tie.close
     (tie.spec
+    (λ c κs. search needs)
     (λ c κs. search needs)
     (λ c. search needs)
     (λ c. search needs)

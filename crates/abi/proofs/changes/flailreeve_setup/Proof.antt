@@ -6,7 +6,7 @@ use Rattle.books.specs.Book.{mostLists, zeroBook, bookOf}
 use Rattle.engines.specs.Calls.{freshBookOf}
 use Rattle.shares.proofs.LaidOut.{setup-whole}
 use Rattle.faces.proofs.Kept.{kept-done, kept-refused}
-use Rattle.abi.proofs.Thin.{changed-by}
+use Rattle.abi.proofs.Thin.{prepared-by}
 use Rattle.abi.proofs.changes.flailreeve_setup.Statement.{statement}
 use Rattle.abi.proofs.changes.flailreeve_setup.Tie as tie
 
@@ -15,14 +15,14 @@ returns c =
     let laid = c .before .before .before .before .before .before in
     let a = laid .before .before .before .before .before .args in
     let book = bookOf (freshBookOf mostLists (a .lists) (now (a .shares)) (now (a .limits))) in
-    changed-by _ refl (c .fresh-words .ensures ∙ sym (kept-done _ _ _ (c .before .if1 .taken)))
+    prepared-by _ refl (c .fresh-words .ensures ∙ sym (kept-done _ _ _ (c .before .if1 .taken)))
     (setup-whole (now (a .links)) (now (a .values)) (a .lists) (now (a .shares)) (now (a .limits)) book (laid .lay-out .ensures) (λ d. absurd (d (c .before .if1 .taken))) (λ z. refl))
 
 returns-2 : tie.Need-returns-2
 returns-2 c =
     let laid = c .before .before .before .before .before in
     let a = laid .before .before .before .before .before .args in
-    changed-by _ refl (sym (kept-refused _ _ _ (c .if1 .left)))
+    prepared-by _ refl (sym (kept-refused _ _ _ (c .if1 .left)))
     (setup-whole (now (a .links)) (now (a .values)) (a .lists) (now (a .shares)) (now (a .limits)) zeroBook (laid .lay-out .ensures) (λ d. refl) (λ z. absurd (c .if1 .left z)))
 
 pub flailreeve-setup-spec : {M : Type 1} → statement M

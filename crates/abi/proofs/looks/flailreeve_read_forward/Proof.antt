@@ -5,7 +5,7 @@ use Rattle.abi.proofs.looks.flailreeve_read_forward.Statement.{statemen
 use Rattle.abi.proofs.looks.flailreeve_read_forward.Tie as tie
 
 returns : tie.Need-returns
-returns c = shown-by (c .before .before .before .read-words .ensures)
+returns c = shown-by (c .before .before .before .before .read-words .ensures)
 
 pub flailreeve-read-forward-spec : {M : Type 1} → statement M
 flailreeve-read-forward-spec = tie.close (tie.spec (λ c κs. search needs) (λ c. search needs) returns)

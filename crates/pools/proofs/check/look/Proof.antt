@@ -1,24 +1,29 @@
--- `pools::check::look`: 1 where the sizes do not fit; else what the check told in one number.
-use mathlib.Core.Path.{sym, _∙_}
+-- `pools::check::look`: 1 where the sizes do not fit; else what the check tells, with a record of the size that is enough.
+use native.Mathlib.Omega.{arith}
 use borrow.Author.Needs.{needs}
-use borrow.Author.Tests.{not-true, not-false}
-use Rattle.engines.specs.Check.{sizesFit, lookOf}
-use Rattle.engines.proofs.Checked.{fits-exactly}
-use Rattle.xor.specs.Engine.{xor}
+use Rattle.pools.proofs.Told.{look-unfit}
 use Rattle.pools.proofs.check.look.Statement.{statement}
 use Rattle.pools.proofs.check.look.Tie as tie
 
 returns : tie.Need-returns
-unfolding lookOf sizesFit
-returns c = simp (c .refused .ensures, ← c .before .before .sizes-fit .ensures, not-true (c .before .before .sizes-fit .result) (c .before .if1 .taken))
-
--- past the first test the sizes fit
-look-sized-requires : tie.Need-look-sized-requires
-unfolding sizesFit
-look-sized-requires c κs = fits-exactly xor _ _ .0 (sym (c .before .sizes-fit .ensures) ∙ not-false (c .before .sizes-fit .result) (c .if1 .left))
+returns c = (look-unfit _ _ _ _ (λ f. c .if1 .taken (f .same)), λ d. omega arith)
 
 returns-2 : tie.Need-returns-2
-returns-2 c = c .told .ensures ∙ c .before .look-sized .ensures
+returns-2 c = (look-unfit _ _ _ _ (λ f. omega (arith, f .size .least, c .if3 .taken)), λ d. omega arith)
+
+returns-6 : tie.Need-returns-6
+returns-6 c = (look-unfit _ _ _ _ (λ f. omega (arith, f .size .most, c .if5 .left)), λ d. omega arith)
 
 pub look-spec : {M : Type 1} → statement M
-look-spec = tie.close (tie.spec (λ c κs. search needs) (λ c κs. search needs) returns look-sized-requires (λ c κs. search needs) returns-2)
+look-spec =
+    tie.close
+    (tie.spec
+    returns
+    returns-2
+    (λ c κs. search needs)
+    (λ c. search needs)
+    (λ c κs. search needs)
+    (λ c. search needs)
+    (λ c κs. search needs)
+    (λ c. search needs)
+    returns-6)

@@ -1,4 +1,4 @@
--- `shares::ends::pop`: what the check and `list_number` promise, by the test of their number, and what the pop from the list gives back.
+-- `shares::ends::pop`: what the check and `list_refusal` promise, by the test of their number, and what the pop from the list gives back.
 use mathlib.Core.Path.{_≡_, sym, _∙_}
 use denote.Ref.{now}
 use lib.ListN.{length, length-map}
@@ -12,41 +12,42 @@ use Rattle.shares.proofs.ends.pop.Statement.{statement}
 use Rattle.shares.proofs.ends.pop.Tie as tie
 
 -- what the check gave, of the book itself
-module _ (c : tie.After-list-number) where
+module _ (c : tie.After-list-refusal) where
   abbrev start : tie.Start
-  start = c .before .before .before .before .before .before .before .before .before
+  start = c .before .before .before .before .before .before .before .before .before .before
 
   entries : length (start .args .t4 .entries) ≡ 8
   entries = sym (length-map (start .args .t4 .entries) _) ∙ start .good .1 .1 .1 .0 .1 .1 .1 .0 .1 .0 .1
 
-  looked : c .before .before .look .result ≡ lookOf xor (start .args .list) (now (start .args .links)) (now (start .args .values)) (eight (start .args .t4))
-  looked = look-of-words (now (start .args .links)) (now (start .args .values)) (start .args .t4) (start .args .list) entries (c .before .before .before .before .before .before .words-of .ensures) (c .before .before .look .ensures)
+  looked : c .before .before .told .result ≡ lookOf xor (start .args .list) (now (start .args .links)) (now (start .args .values)) (eight (start .args .t4))
+  looked = look-of-words (now (start .args .links)) (now (start .args .values)) (start .args .t4) (start .args .list) entries (c .before .before .before .before .before .before .before .words-of .ensures) (c .before .before .told .ensures ∙ c .before .before .before .look .ensures .0)
 
 returns : tie.Need-returns
 returns c =
     let past = c .before in
-    let at = past .before in
-    let e = early-stopped xor _ _ _ _ _ (looked at) _ (at .list-number .ensures) (past .if1 .taken) in
+    let at = past .before .before in
+    let e = early-stopped xor _ _ _ _ _ (looked at) _ (at .list-refusal .ensures) (past .if1 .taken) in
     pop-early _ _ _ _ _ e (past .if1 .taken) _ (c .popped .ensures)
 
 element-copy-out-entry : tie.Need-element-copy-out-entry
 element-copy-out-entry c =
     let past = c .before .before in
-    let (e, z) = early-passed xor _ _ _ _ _ (looked (past .before)) _ (past .before .list-number .ensures) (past .if1 .left) in
+    let (e, z) = early-passed xor _ _ _ _ _ (looked (past .before .before)) _ (past .before .before .list-refusal .ensures) (past .if1 .left) in
     inside _ _ _ _ _ e z (c .wide .ensures .0)
 
 returns-2 : tie.Need-returns-2
 returns-2 c =
     let gone = c .before .before .before .before .before .before in
     let past = gone .before .before .before .before .before .before .before .before in
-    let a = start (past .before) .args in
-    let (e, z) = early-passed xor _ _ _ _ _ (looked (past .before)) _ (past .before .list-number .ensures) (past .if1 .left) in
+    let a = start (past .before .before) .args in
+    let (e, z) = early-passed xor _ _ _ _ _ (looked (past .before .before)) _ (past .before .before .list-refusal .ensures) (past .if1 .left) in
     pop-put _ _ _ _ _ e z (gone .before .before .before .before .before .before .wide .ensures .0) (c .before .with-list .ensures) (a .end) (c .popped2 .ensures) (gone .pop .ensures)
 
 pub pop-spec : {M : Type 1} → statement M
 pop-spec =
     tie.close
     (tie.spec
+    (λ c κs. search needs)
     (λ c κs. search needs)
     (λ c κs. search needs)
     (λ c κs. search needs)

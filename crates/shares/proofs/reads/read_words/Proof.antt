@@ -1,4 +1,4 @@
--- `shares::reads::read_words`: what the check, `list_number` and `read_number` promise, by the tests of their numbers, and what the read of the list leaves.
+-- `shares::reads::read_words`: what the check, `list_refusal` and `read_number` promise, by the tests of their numbers, and what the read of the list leaves.
 use mathlib.Core.Path.{_≡_, refl, ap, _∙_}
 use mathlib.Core.Bool.{cond, _&&_}
 use Prim.Native.Nat.{_<_}
@@ -9,6 +9,7 @@ use borrow.Author.Needs.{needs}
 use Rattle.books.specs.declared.Entry.{Entry}
 use Rattle.shapes.specs.Ends.{nearOf}
 use Rattle.books.specs.Words.{bookFrom}
+use Rattle.books.specs.Place.{numbered}
 use Rattle.engines.proofs.Looking.{early-stopped, early-passed}
 use Rattle.xor.specs.Engine.{xor}
 use Rattle.shares.proofs.Reached.{early-in-words, read-early, read-full, read-count-fits, read-went}
@@ -16,23 +17,23 @@ use Rattle.shares.proofs.reads.read_words.Statement.{statement}
 use Rattle.shares.proofs.reads.read_words.Tie as tie
 
 -- the number after the test of the list, with how many lists the words say there are
-told : (c : tie.After-list-number)
-    → c .list-number .result ≡ cond (eqb (c .before .before .before .look .result .refusal .number) 0 && leb (bookFrom (now (c .before .before .before .before .before .before .before .args .words)) .lists) (c .before .before .before .before .before .before .before .args .list)) 4 (c .before .before .before .look .result .refusal .number)
-told c = early-in-words (c .before .before .before .look .result .refusal .number) (c .before .before .before .before .before .before .before .args .list) (c .before .lists-of .ensures) (c .list-number .ensures)
+told : (c : tie.After-list-refusal)
+    → c .list-refusal .result ≡ cond (eqb (c .before .before .before .told .result .refusal .number) 0 && leb (bookFrom (now (c .before .before .before .before .before .before .before .before .args .words)) .lists) (c .before .before .before .before .before .before .before .before .args .list)) (numbered 4) (c .before .before .before .told .result .refusal)
+told c = early-in-words (c .before .before .before .told .result .refusal) (c .before .before .before .before .before .before .before .before .args .list) (c .before .lists-of .ensures) (c .list-refusal .ensures)
 
 returns : tie.Need-returns
 returns c =
     let past = c .before in
-    let at = past .before in
-    let e = early-stopped xor _ _ _ _ _ (at .before .before .before .look .ensures) _ (told at) (past .if1 .taken) in
+    let at = past .before .before in
+    let e = early-stopped xor _ _ _ _ _ (at .before .before .before .told .ensures ∙ at .before .before .before .before .look .ensures .0) _ (told at) (past .if1 .taken) in
     read-early _ _ _ _ _ e (past .if1 .taken) _ _ _ (c .refused .ensures)
 
 returns-2 : tie.Need-returns-2
 returns-2 c =
     let asked = c .before .before in
     let past = asked .before .before in
-    let at = past .before in
-    let (e, z) = early-passed xor _ _ _ _ _ (at .before .before .before .look .ensures) _ (told at) (past .if1 .left) in
+    let at = past .before .before in
+    let (e, z) = early-passed xor _ _ _ _ _ (at .before .before .before .told .ensures ∙ at .before .before .before .before .look .ensures .0) _ (told at) (past .if1 .left) in
     read-full _ _ _ _ _ e z _ _ _ _ (asked .read-number .ensures) (c .before .if2 .taken) (c .refused2 .ensures)
 
 -- what the read counts fits the answer
@@ -41,9 +42,9 @@ counted c =
     let near = c .before .before .before .before in
     let asked = near .before .before .before in
     let past = asked .before .before in
-    let at = past .before in
-    let a = at .before .before .before .before .before .before .before .args in
-    let (e, z) = early-passed xor _ _ _ _ _ (at .before .before .before .look .ensures) _ (told at) (past .if1 .left) in
+    let at = past .before .before in
+    let a = at .before .before .before .before .before .before .before .before .args in
+    let (e, z) = early-passed xor _ _ _ _ _ (at .before .before .before .told .ensures ∙ at .before .before .before .before .look .ensures .0) _ (told at) (past .if1 .left) in
     read-count-fits _ _ _ _ _ e z (a .end) (now (a .buffer)) (a .at) _
     (asked .read-number .ensures)
     (near .before .before .if2 .left)
@@ -58,9 +59,9 @@ returns-3 c =
     let near = c .before .before .before .before in
     let asked = near .before .before .before in
     let past = asked .before .before in
-    let at = past .before in
-    let a = at .before .before .before .before .before .before .before .args in
-    let (e, z) = early-passed xor _ _ _ _ _ (at .before .before .before .look .ensures) _ (told at) (past .if1 .left) in
+    let at = past .before .before in
+    let a = at .before .before .before .before .before .before .before .before .args in
+    let (e, z) = early-passed xor _ _ _ _ _ (at .before .before .before .told .ensures ∙ at .before .before .before .before .look .ensures .0) _ (told at) (past .if1 .left) in
     read-went _ _ _ _ _ e z _ _ _ _
     (asked .read-number .ensures)
     (near .before .before .if2 .left)
@@ -74,6 +75,7 @@ pub read-words-spec : {M : Type 1} → statement M
 read-words-spec =
     tie.close
     (tie.spec
+    (λ c κs. search needs)
     (λ c κs. search needs)
     (λ c κs. search needs)
     (λ c κs. search needs)

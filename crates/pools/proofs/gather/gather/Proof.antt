@@ -1,4 +1,4 @@
--- `pools::check::gather`: at each turn the lists from here on give what all of them give.
+-- `pools::gather::gather`: at each turn the lists from here on give what all of them give.
 use mathlib.Core.Path.{_≡_, refl, sym, ap, subst, _∙_}
 use mathlib.Core.Bool.{_&&_}
 use mathlib.Core.List.{List}
@@ -20,8 +20,8 @@ use Rattle.shapes.specs.Faults.{gatheredNone, gatherOne}
 use Rattle.engines.specs.Check.{gatherAll}
 use Rattle.engines.proofs.Stages.{gather-done, gather-next, gather-halt, live-unmet}
 use Rattle.xor.specs.Engine.{xor}
-use Rattle.pools.proofs.check.gather.Statement.{statement}
-use Rattle.pools.proofs.check.gather.Tie as tie
+use Rattle.pools.proofs.gather.gather.Statement.{statement}
+use Rattle.pools.proofs.gather.gather.Tie as tie
 
 abbrev Inv-loop : tie.InvT-loop
 Inv-loop links met₀ count words wanted g₀ list₀ met g list =

@@ -1,7 +1,7 @@
--- `pools::check::ends_well`: at its end the last slot is held against the tail.
+-- `pools::gather::ends_well`: at its end the last slot is held against the tail.
 use borrow.Author.Needs.{needs}
-use Rattle.pools.proofs.check.ends_well.Statement.{statement}
-use Rattle.pools.proofs.check.ends_well.Tie as tie
+use Rattle.pools.proofs.gather.ends_well.Statement.{statement}
+use Rattle.pools.proofs.gather.ends_well.Tie as tie
 
 returns : tie.Need-returns
 returns c = rw (c .before .before .before .if1 .taken, c .before .wide .ensures .0, c .before .before .tail-at .ensures)

@@ -1,8 +1,8 @@
--- `pools::check::over_of`: each answer follows from the tests on the way.
+-- `pools::gather::over_of`: each answer follows from the tests on the way.
 use borrow.Author.Needs.{needs}
 use borrow.Author.Tests.{eq-eqb, ne-eqb, lt-ltb, le-ltb}
-use Rattle.pools.proofs.check.over_of.Statement.{statement}
-use Rattle.pools.proofs.check.over_of.Tie as tie
+use Rattle.pools.proofs.gather.over_of.Statement.{statement}
+use Rattle.pools.proofs.gather.over_of.Tie as tie
 
 returns : tie.Need-returns
 returns c = simp (eq-eqb _ _ (c .before .if1 .taken), ← c .before .before .wide .ensures .0, lt-ltb _ _ (c .if2 .taken))

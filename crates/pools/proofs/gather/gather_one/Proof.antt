@@ -1,4 +1,4 @@
--- `pools::check::gather_one`: what its helpers promise; of an empty list the limit and the count add nothing.
+-- `pools::gather::gather_one`: what its helpers promise; of an empty list the limit and the count add nothing.
 use mathlib.Core.Path.{_≡_, refl, sym, ap, _∙_}
 use mathlib.Core.Bool.{Bool, true, false, cond, _&&_}
 use Prim.Native.Nat.{ℕ, _+_, _-_}
@@ -11,8 +11,8 @@ use Rattle.books.specs.declared.Entry.{Entry}
 use Rattle.books.specs.Words.{entryFrom}
 use Rattle.shapes.specs.declared.Gathered.{Gathered}
 use Rattle.shapes.specs.Faults.{gatherOne}
-use Rattle.pools.proofs.check.gather_one.Statement.{statement}
-use Rattle.pools.proofs.check.gather_one.Tie as tie
+use Rattle.pools.proofs.gather.gather_one.Statement.{statement}
+use Rattle.pools.proofs.gather.gather_one.Tie as tie
 
 module _ (wanted lists list : ℕ) (e : Entry) (g : Gathered) where
   never-over : cond (eqb (g .over) lists && ltb (e .limit) 0) list (g .over) ≡ g .over

@@ -1,7 +1,7 @@
--- `pools::check::asked_length`: each answer follows from the test on the way.
+-- `pools::gather::asked_length`: each answer follows from the test on the way.
 use borrow.Author.Tests.{eq-eqb, ne-eqb}
-use Rattle.pools.proofs.check.asked_length.Statement.{statement}
-use Rattle.pools.proofs.check.asked_length.Tie as tie
+use Rattle.pools.proofs.gather.asked_length.Statement.{statement}
+use Rattle.pools.proofs.gather.asked_length.Tie as tie
 
 returns : tie.Need-returns
 returns c = simp (eq-eqb _ _ (c .if1 .taken))
