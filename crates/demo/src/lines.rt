@@ -2,7 +2,7 @@
 ghost use Prim.Native.Nat.{_+_, _*_, _≤_};
 ghost use lib.ListN.{length};
 ghost use Rattle.wording.specs.Digits.{Written};
-ghost use Rattle.shows.specs.Demo.{lineOf, refusalOf, threeOf};
+ghost use Rattle.shows.specs.Demo.{lineOf, refusalLine, threeOf};
 
 // Three lines with one label. Answers how many bytes they have.
 pub(crate) fn three(out: &mut [u8], at: usize, label: &[u8], x: u64, y: u64, z: u64) -> usize
@@ -27,7 +27,7 @@ fn line(out: &mut [u8], at: usize, label: &[u8], number: u64) -> usize
 // The text of a refusal, and the line's end.
 pub(crate) fn refused(out: &mut [u8], at: usize, number: u16) -> usize
     requires { ⌜ at + 65 ≤ length (now out) ⌝ }
-    ensures { λ r. ⌜ Written (refusalOf number) (now (out .entry)) at r (now (out .exit)) ⌝ }
+    ensures { λ r. ⌜ Written (refusalLine number) (now (out .entry)) at r (now (out .exit)) ⌝ }
 {
     let first = texts::write(out, at, number);
     first + texts::put(out, at + first, b"\n")

@@ -8,7 +8,7 @@ use Rattle.wording.proofs.Written.{twenty-bytes}
 use Rattle.wording.specs.Texts.{textOf, lineEnd}
 use Rattle.wording.proofs.Pieces.{both-in}
 use Rattle.wording.proofs.Texts.{no-longer}
-use Rattle.shows.specs.Demo.{lineOf, refusalOf, threeOf}
+use Rattle.shows.specs.Demo.{lineOf, refusalLine, threeOf}
 
 -- ---- a line
 
@@ -53,11 +53,11 @@ module _ (label : List ℕ) (x y z : ℕ) (p : x < 2 ^ 64) (q : y < 2 ^ 64) (r :
 -- ---- a refusal
 
 module _ (number : ℕ) where
-  pub refusal-size : length (refusalOf number) ≤ 65
-  unfolding refusalOf
+  pub refusal-size : length (refusalLine number) ≤ 65
+  unfolding refusalLine
   refusal-size = omega (arith, length-append (textOf number) lineEnd, no-longer number)
 
   pub refusal-in : {before : List ℕ} {at i j : ℕ} {mid after : List ℕ} → at + 65 ≤ length before
-      → Written (textOf number) before at i mid → Written lineEnd mid (at + i) j after → Written (refusalOf number) before at (i + j) after
-  unfolding refusalOf
+      → Written (textOf number) before at i mid → Written lineEnd mid (at + i) j after → Written (refusalLine number) before at (i + j) after
+  unfolding refusalLine
   refusal-in {before} {at} h A B = let l = no-longer number in both-in (textOf number) lineEnd before at (omega arith) A B

@@ -17,7 +17,7 @@ use Rattle.xor.specs.Ten.{setupOf}
 use Rattle.engines.proofs.Fresh.{setup-given}
 use Rattle.wording.proofs.Pieces.{at-most-bytes, both-in}
 use Rattle.shows.specs.declared.Gone.{Gone}
-use Rattle.shows.specs.Demo.{five, nextBack, nextFront, pushedOf, poppedOf, refusalOf, pushedLines, poppedLines, shownPops, shownOf}
+use Rattle.shows.specs.Demo.{five, nextBack, nextFront, pushedOf, poppedOf, refusalLine, pushedLines, poppedLines, shownPops, shownOf}
 use Rattle.shows.proofs.Rows.{three-size, refusal-size}
 use Rattle.shows.proofs.Played.{back-stops, front-stops}
 
@@ -33,7 +33,7 @@ pushed-count W = omega (arith, at-most-bytes W, pushed-size)
 -- ---- the pops
 
 module _ (gone : Gone) where
-  pub pops-refused : (gone .number ≡ 0 → ⊥) → shownPops gone ≡ refusalOf (gone .number)
+  pub pops-refused : (gone .number ≡ 0 → ⊥) → shownPops gone ≡ refusalLine (gone .number)
   unfolding shownPops
   pops-refused h = rw (ne-eqb (gone .number) 0 h)
 
@@ -52,7 +52,7 @@ module _ (gone : Gone) where
 
 module _ (links values : List ℕ) {r : Outcome Answer} (e : r ≡ pushedOf links values) {before : List ℕ} {n : ℕ} {after : List ℕ} where
   -- a push was refused, or the setup
-  pub at-pushes : (r .answer .refusal .number ≡ 0 → ⊥) → Written (refusalOf (r .answer .refusal .number)) before 0 n after → Written (shownOf links values) before 0 n after
+  pub at-pushes : (r .answer .refusal .number ≡ 0 → ⊥) → Written (refusalLine (r .answer .refusal .number)) before 0 n after → Written (shownOf links values) before 0 n after
   unfolding shownOf
   at-pushes h W = rw (sym e, ne-eqb (r .answer .refusal .number) 0 h) W
 
@@ -86,6 +86,6 @@ module _ (links values : List ℕ) (d : length links ≡ length values → ⊥) 
       no z = omega (arith, unequal-made)
 
   -- where the slices differ in length, the text of 1 is all that is shown
-  pub unequal-shown : shownOf links values ≡ refusalOf 1
+  pub unequal-shown : shownOf links values ≡ refusalLine 1
   unfolding shownOf pushedOf
   unequal-shown = rw (unequal-pushed, unequal-made)

@@ -48,8 +48,8 @@ poppedOf links values book =
 unfoldable pub lineOf : List ℕ → ℕ → List ℕ
 lineOf label number = label ++ bytesOf number ++ lineEnd
 
-unfoldable pub refusalOf : ℕ → List ℕ
-refusalOf number = textOf number ++ lineEnd
+unfoldable pub refusalLine : ℕ → List ℕ
+refusalLine number = textOf number ++ lineEnd
 
 abbrev pub threeOf : List ℕ → ℕ → ℕ → ℕ → List ℕ
 threeOf label x y z = lineOf label x ++ lineOf label y ++ lineOf label z
@@ -62,13 +62,13 @@ poppedLines = threeOf (spelled "popped: ")
 
 -- the lines of the pops, or the text of the first that was refused
 unfoldable pub shownPops : Gone → List ℕ
-shownPops gone = cond (eqb (gone .number) 0) (poppedLines (gone .last) (gone .first) (gone .left)) (refusalOf (gone .number))
+shownPops gone = cond (eqb (gone .number) 0) (poppedLines (gone .last) (gone .first) (gone .left)) (refusalLine (gone .number))
 
 -- 01: "shows a refusal as one short text for each number and then ends"
 unfoldable pub shownOf : List ℕ → List ℕ → List ℕ
 shownOf links values =
     let r = pushedOf links values in
-    cond (eqb (r .answer .refusal .number) 0) (pushedLines ++ shownPops (poppedOf (r .links) (r .values) (r .answer .book) .answer)) (refusalOf (r .answer .refusal .number))
+    cond (eqb (r .answer .refusal .number) 0) (pushedLines ++ shownPops (poppedOf (r .links) (r .values) (r .answer .book) .answer)) (refusalLine (r .answer .refusal .number))
 
 -- 01: "prints exactly"
 abbrev pub sixLines : List ℕ

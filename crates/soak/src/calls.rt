@@ -105,7 +105,7 @@ fn book(desk: &Desk) -> Book {
     }
 }
 
-// What a call answers: the number, the value popped, the length or the count read, or else 0, and the book.
+// What a call answers: the number with its place, the value popped, the length or the count read, or else 0, and the book.
 fn answer(refusal: Refusal, value: u64, book: Book) -> Popped {
     Popped {
         given: Value { refusal, value },
@@ -149,7 +149,15 @@ fn note_answer(desk: &mut Desk, answer: Popped) {
         wide(book.lists),
         0,
     );
-    set_four(desk, GOT, NUMBER, wide(refusal.number), given.value, 0, 0);
+    set_four(
+        desk,
+        GOT,
+        NUMBER,
+        wide(refusal.number),
+        given.value,
+        wide(refusal.list),
+        wide(refusal.position),
+    );
 }
 
 fn eight(desk: &Desk, field: u64) -> [u16; 8] {

@@ -1,4 +1,4 @@
-// Damage: a cell or a word of the book is changed, and the change is undone later.
+// Damage: cells or words of the book are changed, and the changes are undone later.
 use crate::desk::*;
 use crate::sound;
 
@@ -37,13 +37,48 @@ fn place(seed: u64, row: u64, size: u64) -> u64 {
     }
 }
 
-// A link, a value or a word of the book is changed, and the program's own test says whether the pool is sound all the same.
-fn hurt(desk: &mut Desk, seed: u64, size: u64) {
-    let row = plus(LINKS, dice(seed, 25, 3));
+// A cell of a row becomes another number.
+fn change_cell(desk: &mut Desk, seed: u64, row: u64, size: u64) {
     let place = place(seed, row, size);
     let new = other(seed, get(desk, row, place), size, bits_of(row));
-    sound::copy_pool(desk, LINKS, SAVED, size);
     set(desk, row, place, new);
+}
+
+// A list's limit becomes smaller than its length, with share 0, or its share as large as its limit. Rule 15 is the last one, and other
+// damage seldom breaks it alone.
+fn change_entry(desk: &mut Desk, seed: u64) {
+    let list = dice(seed, 29, get(desk, BOOK, LISTS)) & 7;
+    let share = (list << 2) | SHARE;
+    let limit = (list << 2) | LIMIT;
+    let die = dice(seed, 30, plus(get(desk, COUNTS, list), 1));
+    match die {
+        0 => set(desk, BOOK, share, get(desk, BOOK, limit)),
+        _ => {
+            set(desk, BOOK, share, 0);
+            set(desk, BOOK, limit, minus(die, 1));
+        }
+    }
+}
+
+// A link, a value or a word of the book is changed, or a list's entry.
+fn change(desk: &mut Desk, seed: u64, size: u64) {
+    let row = plus(LINKS, dice(seed, 25, 5));
+    match row {
+        LINKS | VALUES | BOOK => change_cell(desk, seed, row, size),
+        _ => change_entry(desk, seed),
+    }
+}
+
+// One to three changes, so that several rules may be broken, and the program's own test says whether the pool is sound all the same.
+fn hurt(desk: &mut Desk, seed: u64, size: u64) {
+    let mut left = plus(dice(seed, 28, 3), 1);
+    let mut die = seed;
+    sound::copy_pool(desk, LINKS, SAVED, size);
+    while 0 < left {
+        change(desk, die, size);
+        die = stir(die);
+        left -= 1;
+    }
     let state = sound::faults(desk, size);
     set(desk, NOTES, STATE, state);
     add_to(desk, NOTES, HURTS, 1);

@@ -1,7 +1,7 @@
 // The desk: rows of 8,192 numbers in which the program keeps all that it works out. Past a row's end a read gives 0 and a write does nothing.
 
-// Thirty-three rows. An array of a known length asks no proof of its length after a call.
-pub(crate) type Desk = [u64; 270336];
+// Forty-four rows. An array of a known length asks no proof of its length after a call.
+pub(crate) type Desk = [u64; 360448];
 
 // Rows 0 to 7 are the slots of each list, row 8 the free slots. How many each has, and where in its row the first one stands.
 pub(crate) const FREE: u64 = 8;
@@ -17,7 +17,8 @@ pub(crate) const VALUES: u64 = 12;
 
 pub(crate) const BOOK: u64 = 13;
 
-// In an entry: share and limit. After the entries: the free head, and how many lists there are. After the book: number and value.
+// In an entry: share and limit. After the entries: the free head, and how many lists there are. After the book: number, value, and the
+// list and the position that the number sets.
 pub(crate) const SHARE: u64 = 2;
 
 pub(crate) const LIMIT: u64 = 3;
@@ -35,7 +36,7 @@ pub(crate) const SAVED: u64 = 14;
 
 pub(crate) const TESTED: u64 = 17;
 
-// What a call must leave in the buffer, and what it must answer: book, number and value.
+// What a call must leave in the buffer, and what it must answer: book, number, value and place.
 pub(crate) const BUFFER: u64 = 20;
 
 pub(crate) const WANTED: u64 = 21;
@@ -54,8 +55,10 @@ pub(crate) const ASKED: u64 = 26;
 
 pub(crate) const FRESH: u64 = 27;
 
-// How often each call gave each number: 16 places for each call.
+// How often each call gave each number: 16 places for each call, and 16 for all of them together.
 pub(crate) const TABLE: u64 = 28;
+
+pub(crate) const ALL: u64 = 10;
 
 // Single numbers. The state of the pool is 0 when it is sound, 1 when it is damaged, 2 before its first setup.
 pub(crate) const NOTES: u64 = 29;
@@ -102,12 +105,26 @@ pub(crate) const TAKEN_BACK: u64 = 17;
 // The call that undoes the last one, if it is the next; else 0.
 pub(crate) const UNDOING: u64 = 18;
 
-// The pool of before a call by dice, to compare with when that is undone: three rows, as above, and after the book number and value.
+// The list and the position of the first broken rule, or 0.
+pub(crate) const FAULT_LIST: u64 = 19;
+
+pub(crate) const FAULT_POSITION: u64 = 20;
+
+// The pool of before a call by dice, to compare with when that is undone: three rows, as above, and after the book what the call that undoes
+// it must answer.
 pub(crate) const KEPT: u64 = 30;
+
+// The chains as they are found in a pool, a row for each list and one for the free slots, how long each is, and for each slot where it is
+// met first.
+pub(crate) const WRITTEN: u64 = 33;
+
+pub(crate) const LENGTHS: u64 = 42;
+
+pub(crate) const MARKS: u64 = 43;
 
 pub(crate) fn get(desk: &Desk, row: u64, place: u64) -> u64 {
     let k = index(row, place);
-    if k < 270336 {
+    if k < 360448 {
         return desk[k];
     }
     0
@@ -115,7 +132,7 @@ pub(crate) fn get(desk: &Desk, row: u64, place: u64) -> u64 {
 
 pub(crate) fn set(desk: &mut Desk, row: u64, place: u64, to: u64) {
     let k = index(row, place);
-    if k < 270336 {
+    if k < 360448 {
         desk[k] = to;
     }
 }
@@ -189,7 +206,7 @@ pub(crate) fn next(seed: u64) -> u64 {
 }
 
 // The halves of a number, each multiplied and laid over the other.
-fn stir(x: u64) -> u64 {
+pub(crate) fn stir(x: u64) -> u64 {
     let low = x % 4294967296 * 2654435769;
     let high = x / 4294967296 * 2246822519;
     low ^ (low >> 29) ^ (high << 32) ^ (high >> 32)

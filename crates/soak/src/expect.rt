@@ -1,4 +1,5 @@
-// What a call must give and leave, in document 01's words, and whether it did.
+// What a call must give and leave, in the documents' words, and whether it did.
+use crate::broken;
 use crate::deque;
 use crate::desk::*;
 use crate::out;
@@ -60,8 +61,38 @@ fn setup_number(desk: &Desk, size: u64) -> u64 {
     2
 }
 
-// The number that the call must give. The tests run in the order 1 to 8. A pool of another size than it was set up for is not sound.
-fn number(desk: &Desk, kind: u64) -> u64 {
+// 9 to 15 by the program's reading of the pool, or 0. A damaged pool, and one of another size than it was set up for, must break a rule, and
+// no other may: else 3, which no call gives.
+fn rule_number(desk: &mut Desk, size: u64) -> u64 {
+    let rule = broken::first(desk, size);
+    let wrong = (size ^ get(desk, NOTES, SIZE)) | get(desk, NOTES, STATE);
+    match wrong {
+        0 => match rule {
+            0 => 0,
+            _ => 3,
+        },
+        _ => match rule {
+            0 => 3,
+            _ => rule,
+        },
+    }
+}
+
+// 9 to 15, and then 4 to 8.
+fn ruled_number(desk: &mut Desk, kind: u64, size: u64) -> u64 {
+    let rule = rule_number(desk, size);
+    match rule {
+        0 => match kind {
+            1 => 0,
+            _ => list_number(desk, kind),
+        },
+        _ => rule,
+    }
+}
+
+// The number that the call must give. The tests run in this order: 1, then of a setup 2, of the others 9 to 15 and
+// 4 to 8.
+fn number(desk: &mut Desk, kind: u64) -> u64 {
     let size = get(desk, NOTES, LINKS_LENT);
     if size != get(desk, NOTES, VALUES_LENT) {
         return 1;
@@ -69,17 +100,9 @@ fn number(desk: &Desk, kind: u64) -> u64 {
     if 4094 < minus(size, 2) {
         return 1;
     }
-    let other = size ^ get(desk, NOTES, SIZE);
-    let wrong = other | get(desk, NOTES, STATE);
     match kind {
         0 => setup_number(desk, size),
-        _ => match wrong {
-            0 => match kind {
-                1 => 0,
-                _ => list_number(desk, kind),
-            },
-            _ => 3,
-        },
+        _ => ruled_number(desk, kind, size),
     }
 }
 
@@ -95,9 +118,13 @@ pub(crate) fn compare(desk: &mut Desk, got: u64, wanted: u64) {
 
 // The number that the call must give, and the call done on the deque where that is 0. A refused setup answers with the all-zero book.
 fn expect(desk: &mut Desk, kind: u64) {
+    set(desk, NOTES, FAULT_LIST, 0);
+    set(desk, NOTES, FAULT_POSITION, 0);
     let number = number(desk, kind);
+    let list = get(desk, NOTES, FAULT_LIST);
+    let position = get(desk, NOTES, FAULT_POSITION);
     copy(desk, BOOK, WANTED, NUMBER);
-    set_four(desk, WANTED, NUMBER, number, 0, 0, 0);
+    set_four(desk, WANTED, NUMBER, number, 0, list, position);
     match number {
         0 => {
             let value = deque::done(desk, kind);
@@ -115,9 +142,10 @@ fn expect(desk: &mut Desk, kind: u64) {
 // What the call left and answered is held to what it must.
 pub(crate) fn judge(desk: &mut Desk) {
     let kind = get(desk, NOTES, KIND);
-    let entry = plus(plus(kind << 3, kind), get(desk, GOT, NUMBER));
+    let given = get(desk, GOT, NUMBER);
     expect(desk, kind);
-    add_to(desk, TABLE, entry, 1);
+    add_to(desk, TABLE, (kind << 4) | given, 1);
+    add_to(desk, TABLE, (ALL << 4) | given, 1);
     compare(desk, GOT, WANTED);
     compare(desk, GOT_LINKS, LINKS);
     compare(desk, GOT_VALUES, VALUES);

@@ -1,5 +1,6 @@
 // Long random sequences of the ten calls on pools of many sizes, against an independent deque, with damage in between and some calls undone.
 mod asks;
+mod broken;
 mod calls;
 mod damage;
 mod deque;
@@ -11,17 +12,17 @@ mod undo;
 
 use crate::desk::*;
 
-// The sizes of the pools, and how many calls are made on each.
+// The sizes of the pools, and how many calls are made on each. On a small one several rules are broken at once more often.
 const SIZES: [u64; 12] = [2, 3, 4, 5, 6, 8, 16, 61, 256, 1000, 4095, 4096];
 
 const CALLS_ON: [u64; 12] = [
     1100,
-    1100,
-    1100,
-    1100,
-    1100,
-    1100,
-    1100,
+    3000,
+    3000,
+    3000,
+    3000,
+    3000,
+    3000,
     1100,
     1100,
     1600,
@@ -75,7 +76,7 @@ fn pools(desk: &mut Desk) {
 }
 
 fn main() {
-    let mut desk = [0u64; 270336];
+    let mut desk = [0u64; 360448];
     set(&mut desk, NOTES, SEED, 88172645463325252);
     pools(&mut desk);
     out::summary(&desk);

@@ -21,7 +21,7 @@ fn ends(desk: &Desk, list: u64, slot: u64, size: u64) -> bool {
 }
 
 // The slot before, for the link after it. A free slot's link does not tell of it.
-fn before(list: u64, slot: u64) -> u64 {
+pub(crate) fn before(list: u64, slot: u64) -> u64 {
     match list {
         FREE => 0,
         _ => slot,

@@ -25,7 +25,22 @@ pub fn write(out: &mut [u8], at: usize, number: u16) -> usize
         6 => put(out, at, b"the list is at its limit"),
         7 => put(out, at, b"no slot is free but those kept for other lists"),
         8 => put(out, at, b"the buffer is too small"),
-        9..=65535 => put(out, at, b"this version does not know the number"),
+        9 => put(
+            out,
+            at,
+            b"the book's lists, shares or limits break the rules",
+        ),
+        10 => put(out, at, b"slot 0 is not zero"),
+        11 => put(out, at, b"a list's chain is broken"),
+        12 => put(out, at, b"the free chain is broken"),
+        13 => put(out, at, b"a slot is in no chain"),
+        14 => put(out, at, b"a free slot is not wiped"),
+        15 => put(
+            out,
+            at,
+            b"a list is over its limit, or the shares are not covered",
+        ),
+        16..=65535 => put(out, at, b"this version does not know the number"),
     }
 }
 

@@ -52,16 +52,14 @@ fn eight(two: u64) -> [u16; 8] {
 
 // What a setup, a push or a clear gives; it returns the book alone.
 fn changed(answer: Answer) -> Book {
-    let refusal = answer.refusal;
-    out::given(refusal.number, 0);
+    out::given(answer.refusal, 0);
     answer.book
 }
 
 // What a pop gives.
 fn popped(answer: Popped) -> Book {
     let given = answer.given;
-    let refusal = given.refusal;
-    out::given(refusal.number, given.value);
+    out::given(given.refusal, given.value);
     answer.book
 }
 
@@ -85,19 +83,17 @@ pub(crate) fn change(links: &mut [u16], values: &mut [u64], book: Book, step: u6
 
 // What a check gives.
 fn checked(refusal: Refusal) {
-    out::given(refusal.number, 0);
+    out::given(refusal, 0);
 }
 
 // What a read gives.
 fn counted(read: Read) {
-    let refusal = read.refusal;
-    out::given(refusal.number, out::wide(read.count));
+    out::given(read.refusal, out::wide(read.count));
 }
 
 // What length gives.
 fn measured(found: Length) {
-    let refusal = found.refusal;
-    out::given(refusal.number, out::wide(found.length));
+    out::given(found.refusal, out::wide(found.length));
 }
 
 // One call that may change the buffer alone, of eight places that hold 7.

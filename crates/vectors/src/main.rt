@@ -1,4 +1,6 @@
-// Document 01's pools to try, run through the compiled calls, with every cell shown. `stdout` beside src/ was read beside document 01, line by line.
+// Document 01's pools to try and a pool for each broken rule, run through the compiled calls, with every cell shown. `stdout` beside src/
+// was read line by line beside document 01, and beside document 02 where a rule is broken.
+mod broken;
 mod calls;
 mod out;
 mod steps;
@@ -97,7 +99,7 @@ fn nines(title: [u8; 16], size: usize, from: usize, to: usize) {
 
 fn intro() {
     out::say(
-        b"A call has its list and its value or place behind it; a setup its lists, and its shares and limits.\nA book is how many lists it has and the free head, then head, tail, share and limit of each.\n\n",
+        b"A call has its list and its value or place behind it; a setup its lists, and its shares and limits.\nA book is how many lists it has and the free head, then head, tail, share and limit of each.\nA number that names a broken rule has the rule's list and position behind it.\n\n",
     );
 }
 
@@ -121,4 +123,5 @@ fn main() {
     nines(SHARES_2_AND_3, 6, 19, 20);
     nines(SHARES_3_AND_3, 6, 20, 21);
     nines(LIMIT_0, 6, 21, 24);
+    broken::rules();
 }

@@ -2,6 +2,7 @@
 use crate::calls::list_of;
 use crate::calls::value_of;
 use books::Book;
+use books::Refusal;
 use libc::STDOUT_FILENO;
 ghost use Prim.Native.Nat.{_<_};
 
@@ -17,6 +18,8 @@ pub(crate) const VALUES: [u8; 8] = *b", values";
 const BUFFER: [u8; 8] = *b", buffer";
 
 const NUMBER: [u8; 8] = *b": number";
+
+const AT_LIST: [u8; 8] = *b" at list";
 
 const RETURNS: [u8; 8] = *b" returns";
 
@@ -74,10 +77,22 @@ pub(crate) fn call(step: u64) {
     number(value_of(step));
 }
 
+// The place of a broken rule. A number below 9 names no rule and has none: a place that it has all the same is shown.
+fn place(refusal: Refusal) {
+    if refusal.number < 9 && refusal.list | refusal.position == 0 {
+        return;
+    }
+    text(AT_LIST);
+    number(wide(refusal.list));
+    say(b" position");
+    number(wide(refusal.position));
+}
+
 // What it gives.
-pub(crate) fn given(refusal: u16, value: u64) {
+pub(crate) fn given(refusal: Refusal, value: u64) {
     text(NUMBER);
-    number(wide(refusal));
+    number(wide(refusal.number));
+    place(refusal);
     letter(b',');
     text(RETURNS);
     number(value);

@@ -10,7 +10,7 @@ abbrev pub spelled : String → List ℕ
 spelled no-more = []
 spelled (c then s) = code c ∷ spelled s
 
--- the texts for 0 to 8, in this order
+-- the texts for 0 to 15, in this order
 abbrev pub known : List (List ℕ)
 known =
     spelled "done"
@@ -22,6 +22,13 @@ known =
     ∷ spelled "the list is at its limit"
     ∷ spelled "no slot is free but those kept for other lists"
     ∷ spelled "the buffer is too small"
+    ∷ spelled "the book's lists, shares or limits break the rules"
+    ∷ spelled "slot 0 is not zero"
+    ∷ spelled "a list's chain is broken"
+    ∷ spelled "the free chain is broken"
+    ∷ spelled "a slot is in no chain"
+    ∷ spelled "a free slot is not wiped"
+    ∷ spelled "a list is over its limit, or the shares are not covered"
     ∷ []
 
 -- the text for every other number
