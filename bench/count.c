@@ -16,6 +16,7 @@ static struct pool {
 
 static uint16_t shares[FLAILREEVE_BOOK_LISTS], limits[FLAILREEVE_BOOK_LISTS];
 static uint64_t out[FLAILREEVE_LARGEST_POOL];
+static struct flailreeve_place place;
 
 /* Every call gives 0 here. A pool that is not sound, or work that is refused, must not be counted. */
 static void must(unsigned numbers)
@@ -36,7 +37,7 @@ static void fill(struct pool *pool, size_t n, size_t held, uint16_t lists)
     pool->book.lists = lists;
     pool->book.list[0] = (struct flailreeve_list){held > 0, (uint16_t)held, 0, limits[0]};
     pool->book.free_head = (uint16_t)(held + 1 < n ? held + 1 : 0);
-    must(flailreeve_check(pool->links, n, pool->values, n, &pool->book));
+    must(flailreeve_check(pool->links, n, pool->values, n, &pool->book, &place));
 }
 
 int main(int argc, char **argv)
@@ -61,21 +62,21 @@ int main(int argc, char **argv)
         fill(&pools[i], n, held, lists);
     if (strcmp(argv[1], "pair") == 0) {
         for (int i = 0; i < times; i++) {
-            numbers |= flailreeve_push_back(pool->links, n, pool->values, n, &pool->book, 0, (uint64_t)i + 1);
-            numbers |= flailreeve_pop_front(pool->links, n, pool->values, n, &pool->book, 0, &value);
+            numbers |= flailreeve_push_back(pool->links, n, pool->values, n, &pool->book, 0, (uint64_t)i + 1, &place);
+            numbers |= flailreeve_pop_front(pool->links, n, pool->values, n, &pool->book, 0, &value, &place);
         }
     } else if (strcmp(argv[1], "check") == 0) {
         for (int i = 0; i < times; i++)
-            numbers |= flailreeve_check(pool->links, n, pool->values, n, &pool->book);
+            numbers |= flailreeve_check(pool->links, n, pool->values, n, &pool->book, &place);
     } else if (strcmp(argv[1], "length") == 0) {
         for (int i = 0; i < times; i++)
-            numbers |= flailreeve_length(pool->links, n, pool->values, n, &pool->book, 0, &small);
+            numbers |= flailreeve_length(pool->links, n, pool->values, n, &pool->book, 0, &small, &place);
     } else if (strcmp(argv[1], "read") == 0) {
         for (int i = 0; i < times; i++)
-            numbers |= flailreeve_read_forward(pool->links, n, pool->values, n, &pool->book, 0, out, n, 0, &small);
+            numbers |= flailreeve_read_forward(pool->links, n, pool->values, n, &pool->book, 0, out, n, 0, &small, &place);
     } else if (strcmp(argv[1], "clear") == 0) {
         for (int i = 0; i < times; i++)
-            numbers |= flailreeve_clear(pools[i].links, n, pools[i].values, n, &pools[i].book, 0);
+            numbers |= flailreeve_clear(pools[i].links, n, pools[i].values, n, &pools[i].book, 0, &place);
     } else if (strcmp(argv[1], "setup") == 0) {
         for (int i = 0; i < times; i++)
             numbers |= flailreeve_setup(pool->links, n, pool->values, n, lists, shares, limits, &pool->book);

@@ -13,57 +13,58 @@ uint16_t flailreeve_setup(uint16_t *links, size_t links_len, uint64_t *values, s
 }
 
 uint16_t flailreeve_check(const uint16_t *links, size_t links_len, const uint64_t *values, size_t values_len,
-                          const struct flailreeve_book *book)
+                          const struct flailreeve_book *book, struct flailreeve_place *place)
 {
     return 0;
 }
 
 uint16_t flailreeve_length(const uint16_t *links, size_t links_len, const uint64_t *values, size_t values_len,
-                           const struct flailreeve_book *book, uint16_t list, uint16_t *length)
+                           const struct flailreeve_book *book, uint16_t list, uint16_t *length,
+                           struct flailreeve_place *place)
 {
     return 0;
 }
 
 uint16_t flailreeve_push_back(uint16_t *links, size_t links_len, uint64_t *values, size_t values_len,
-                              struct flailreeve_book *book, uint16_t list, uint64_t value)
+                              struct flailreeve_book *book, uint16_t list, uint64_t value, struct flailreeve_place *place)
 {
     return 0;
 }
 
 uint16_t flailreeve_push_front(uint16_t *links, size_t links_len, uint64_t *values, size_t values_len,
-                               struct flailreeve_book *book, uint16_t list, uint64_t value)
+                               struct flailreeve_book *book, uint16_t list, uint64_t value, struct flailreeve_place *place)
 {
     return 0;
 }
 
 uint16_t flailreeve_pop_back(uint16_t *links, size_t links_len, uint64_t *values, size_t values_len,
-                             struct flailreeve_book *book, uint16_t list, uint64_t *value)
+                             struct flailreeve_book *book, uint16_t list, uint64_t *value, struct flailreeve_place *place)
 {
     return 0;
 }
 
 uint16_t flailreeve_pop_front(uint16_t *links, size_t links_len, uint64_t *values, size_t values_len,
-                              struct flailreeve_book *book, uint16_t list, uint64_t *value)
+                              struct flailreeve_book *book, uint16_t list, uint64_t *value, struct flailreeve_place *place)
 {
     return 0;
 }
 
 uint16_t flailreeve_read_forward(const uint16_t *links, size_t links_len, const uint64_t *values, size_t values_len,
                                  const struct flailreeve_book *book, uint16_t list, uint64_t *out, size_t out_len,
-                                 size_t at, uint16_t *count)
+                                 size_t at, uint16_t *count, struct flailreeve_place *place)
 {
     return 0;
 }
 
 uint16_t flailreeve_read_backward(const uint16_t *links, size_t links_len, const uint64_t *values, size_t values_len,
                                   const struct flailreeve_book *book, uint16_t list, uint64_t *out, size_t out_len,
-                                  size_t at, uint16_t *count)
+                                  size_t at, uint16_t *count, struct flailreeve_place *place)
 {
     return 0;
 }
 
 uint16_t flailreeve_clear(uint16_t *links, size_t links_len, uint64_t *values, size_t values_len,
-                          struct flailreeve_book *book, uint16_t list)
+                          struct flailreeve_book *book, uint16_t list, struct flailreeve_place *place)
 {
     return 0;
 }

@@ -17,9 +17,18 @@
  * holds less than its share is never refused a push for want of room; no list holds more than its limit. The firmware may
  * look at the book and copy it. It makes one by flailreeve_setup, and changes it by the other calls alone.
  *
- * THE NUMBER. Every call returns one: 0 when the call was done, else the reason why it was refused. The tests run in the
- * order of the numbers, and the first that applies is given. A REFUSED CALL writes 0 to `length`, `value` or `count`, where
- * it has one, and changes nothing else: not a link, not a value, not the book, not the buffer of a read.
+ * THE NUMBER. Every call returns one: 0 when the call was done, else the reason why it was refused. The tests run in one
+ * order, and the first that applies is given: 1, then 2 in setup; in the other calls 1, then 9 to 15, then 4 to 8. The numbers
+ * from 9 to 15 say which rule of a sound pool is broken. A REFUSED CALL writes 0 to `length`, `value` or `count`, where it has
+ * one; and to `place`, where it has one, the list and the position that the number sets, 0 where it sets none. It changes
+ * nothing else: not a link, not a value, not the book, not the buffer of a read.
+ *
+ * THE PLACE. Every call but setup writes one to `place`, whatever number it returns: a list and a position, which say where
+ * the pool is broken. A word that says nothing is 0. So both are 0 with 0, 1, 4 to 8, 9 and 10. With 11 the place is a list
+ * and a position in its chain, counted from 0 at the head. With 12 it is a position in the free chain. With 13 and 14 the
+ * position is a slot. With 15 it is a list, or the number of lists where no list is over its limit but the shares are not
+ * covered. The list is 0 with 12, 13 and 14, and the position is 0 with 15. The firmware saves the place with the number, for
+ * field service, and need not act on it.
  *
  * A BOUNCED KEY may be treated, as far as the pool and the book go, as if it had never been pressed. After a push that
  * returned 0, a pop at the same end of that list returns 0 with the value that was pushed, and every link, every value and
@@ -29,16 +38,17 @@
  *
  * WHAT THE CALLER OWES. A call believes these, and no proof can see them; if one does not hold, the behaviour is undefined.
  * - No pointer is null, not even with a length of 0, and each is aligned: to 2 bytes for links, shares, limits, the book,
- *   `length` and `count`; to 8 bytes for values, `value` and `out`.
+ *   `length`, `count` and `place`; to 8 bytes for values, `value` and `out`.
  * - Lengths are true. They count cells, not bytes; shares and limits have eight words each, whatever `lists` is. All of these
  *   can be read, and written where the parameter is not a pointer to const.
- * - No two buffers of one call overlap; `length`, `value`, `count` and the book are buffers too.
+ * - No two buffers of one call overlap; `length`, `value`, `count`, `place` and the book are buffers too.
  * - No other thread and no interrupt handler touches these buffers while the call runs. Calls on different pools may run
  *   at the same time: nothing is shared.
  * - There is stack enough: a call uses up to 4.5 KiB (docs/SPEED.md has the bytes of each).
  * WHAT THE CALLER DOES NOT OWE. What the cells and the book hold may be anything: every call but setup checks the whole pool
- * before it acts, in time in proportion to N, and refuses by 3 one that is not sound. Damage that leaves it sound, as another
- * value in a list's slot, is not seen. List numbers, places and values may be anything too. Every call ends.
+ * before it acts, in time in proportion to N, and refuses by 9 to 15 one that is not sound. Damage that leaves it sound, as
+ * another value in a list's slot, is not seen. What `place` held does not matter. List numbers, `at` and values may be anything
+ * too. Every call ends.
  *
  * A RESET OR A POWER LOSS IN MID-CALL leaves what was stored until then, and no call undoes it. Where the memory kept what it
  * held, flailreeve_check tells whether the pool is sound; a sound pool may still have the last call done, not done, or an
@@ -46,9 +56,9 @@
  * memory holds, and wipes every slot.
  *
  * WHAT IS LEFT TO THE FIRMWARE TO WIPE. The value that it hands to a push, in its own variables and, it being the seventh
- * argument, on its own stack; a value that a pop hands out; the copies that a read writes; and registers: after a done pop one
- * register that a call may change still holds the value, rsi, until something else is put there, and after the other done
- * calls none does. In the dead stack below the caller no call, done or refused, leaves a copy of a block that it was lent or
+ * argument, on its own stack; a value that a pop hands out; the copies that a read writes; and registers: after a done pop rdi
+ * holds the value, and after a done read rdx one of those read, until something else is put there. After the other done calls
+ * no register does. In the dead stack below the caller no call, done or refused, leaves a copy of a block that it was lent or
  * handed. But a call saves there the registers that it must keep for its caller (rbx, rbp, r12 to r15), so a block that the
  * caller itself has in one of them is left there too. This is measured on the compiled archive, at every byte, and not
  * proved. */
@@ -75,7 +85,7 @@ enum {
 
 /* The version of this header. It is raised when a function, the book or the meaning of a number changes. An archive answers
  * by flailreeve_version which header it is for; firmware asks once, before it calls anything else. */
-#define FLAILREEVE_VERSION 1
+#define FLAILREEVE_VERSION 2
 
 /* The numbers that a call returns, and what to do about each. docs/REFUSALS.md has the same for field service. */
 enum {
@@ -83,15 +93,38 @@ enum {
     FLAILREEVE_REFUSED_SIZES = 1,    /* the lengths of links and values differ, or N is under 2 or over 4,096. The call is
                                         written wrongly: mend it */
     FLAILREEVE_REFUSED_RULES = 2,    /* setup's lists, shares or limits break the rules of the book. Ask for less */
-    FLAILREEVE_REFUSED_UNSOUND = 3,  /* the pool and its book are not sound: something damaged them. What the lists held is
-                                        still in memory: call setup, which wipes every slot, and report it */
+    FLAILREEVE_REFUSED_UNSOUND = 3,  /* given by no call from version 2 on: 9 to 15 say which rule is broken */
     FLAILREEVE_REFUSED_NO_LIST = 4,  /* the list number is not below the number of lists. The call is written wrongly */
     FLAILREEVE_REFUSED_EMPTY = 5,    /* the list is empty. Nothing is wrong: there is nothing to take */
     FLAILREEVE_REFUSED_LIMIT = 6,    /* the list's length equals its limit. Take something out first, or drop the value */
     FLAILREEVE_REFUSED_KEPT = 7,     /* the list is under its limit but has its share, and no slot is free but those that the
                                         other lists still lack of theirs. As with 6, or wait until another list has less */
-    FLAILREEVE_REFUSED_BUFFER = 8    /* `at` is past the buffer's end, or there are fewer places from `at` than the list is
-                                        long. Ask for the length, and lend so many places */
+    FLAILREEVE_REFUSED_BUFFER = 8,   /* `at` is past the buffer's end, or there are fewer cells from `at` on than the list is
+                                        long. Ask for the length, and lend so many cells */
+
+    /* Something damaged the pool or its book. The first rule that is broken is named; behind it others may be. Do this in order:
+       1. Save the number and the place, and what is asked for below. Save no value: it may be a block.
+       2. Call setup. It wipes every slot, since what the lists held is still in memory; and it writes over links and book, so
+          it must come after 1.
+       3. Report what was saved. */
+    FLAILREEVE_BROKEN_BOOK = 9,        /* the number of lists, a share, a limit or an unused entry breaks the rules. Save the
+                                          book's 34 words */
+    FLAILREEVE_BROKEN_NULL_SLOT = 10,  /* slot 0's link or value is not 0. Save which of them it is */
+    FLAILREEVE_BROKEN_LIST = 11,       /* a list's chain leaves the pool, meets a slot again or does not end at its tail: list
+                                          and position. Save the links and the book: an earlier list may be what was damaged */
+    FLAILREEVE_BROKEN_FREE_CHAIN = 12, /* the free chain leaves the pool or meets a slot again: position. Save the links and
+                                          the book */
+    FLAILREEVE_LOST_SLOT = 13,         /* a slot is in no chain: the position is the slot. Save the links and the book, and
+                                          whether the device was reset in mid-call */
+    FLAILREEVE_UNWIPED_SLOT = 14,      /* a free slot's value is not 0: the position is the slot. Save what wrote last */
+    FLAILREEVE_OVER_LIMIT = 15         /* a list is longer than its limit, or the free slots do not cover the shares: the list,
+                                          or the number of lists. Save the book's 34 words */
+};
+
+/* Where a pool is broken: two words, no padding. THE PLACE above says what they hold. */
+struct flailreeve_place {
+    uint16_t list;     /* the list, or 0 */
+    uint16_t position; /* the position in the chain or the slot, or 0 */
 };
 
 /* One list of the book. */
@@ -128,10 +161,15 @@ FLAILREEVE_HOLDS(sizeof(struct flailreeve_book) == 68, "the book is 34 words");
 FLAILREEVE_HOLDS(offsetof(struct flailreeve_book, lists) == 0, "the number of lists is the book's first word");
 FLAILREEVE_HOLDS(offsetof(struct flailreeve_book, list) == 2, "the lists begin at the book's second word");
 FLAILREEVE_HOLDS(offsetof(struct flailreeve_book, free_head) == 66, "the free head is the book's last word");
+FLAILREEVE_HOLDS(sizeof(struct flailreeve_place) == 4, "the place is two words");
+FLAILREEVE_HOLDS(offsetof(struct flailreeve_place, list) == 0, "the list is the place's first word");
+FLAILREEVE_HOLDS(offsetof(struct flailreeve_place, position) == 2, "the position is the place's second word");
 #ifdef __cplusplus
 FLAILREEVE_HOLDS(alignof(struct flailreeve_book) == 2, "the book is aligned as its words are");
+FLAILREEVE_HOLDS(alignof(struct flailreeve_place) == 2, "the place is aligned as its words are");
 #else
 FLAILREEVE_HOLDS(_Alignof(struct flailreeve_book) == 2, "the book is aligned as its words are");
+FLAILREEVE_HOLDS(_Alignof(struct flailreeve_place) == 2, "the place is aligned as its words are");
 #endif
 #undef FLAILREEVE_HOLDS
 
@@ -155,86 +193,106 @@ FLAILREEVE_CALL uint16_t flailreeve_setup(uint16_t *links, size_t links_len, uin
                                           uint16_t lists, const uint16_t shares[8], const uint16_t limits[8],
                                           struct flailreeve_book *book);
 
-/* Check: is the pool with its book sound? It changes nothing.
+/* Check: is the pool with its book sound? It changes nothing but `*place`.
  *
  * Gives 0: it is sound. Every slot from 1 to N-1 is in one list or free, once; the links and the book say so; every free
  * slot's value is 0; the shares and limits hold.
  * Gives 1: the lengths differ, or N is under 2 or over 4,096.
- * Gives 3: it is not sound. */
+ * Gives 9 to 15: it is not sound. The number is the first of these that applies, and the place goes with it.
+ * - 9: the number of lists is not 1 to 8, a share is above its limit, a limit is above N-1, the shares add up to more than
+ *   N-1, or an entry of the book from `lists` on is not 0 in every word.
+ * - 10: link 0 or value 0 is not 0.
+ * - 11: a list's chain is broken. The lists are walked in the order of their numbers, each from its head to its end; the slot
+ *   after a slot is its link XOR the slot before it, and 0 is the end. The position is the first whose slot is N or more, or
+ *   was met before, in this list or in an earlier one; or the chain's length, where its last slot is not the tail.
+ * - 12: the free chain is broken. It is walked in the same way from the free head, where the slot after a slot is its link. The
+ *   slots of the lists were met before; there is no tail.
+ * - 13: a slot is in no chain. The position is the lowest such slot.
+ * - 14: a free slot's value is not 0. The position is the lowest such slot.
+ * - 15: a list is longer than its limit: the lowest such list. Or none is, and the free slots are fewer than what the lists
+ *   lack of their shares: the list is then the number of lists. */
 FLAILREEVE_CALL uint16_t flailreeve_check(const uint16_t *links, size_t links_len, const uint64_t *values,
-                                          size_t values_len, const struct flailreeve_book *book);
+                                          size_t values_len, const struct flailreeve_book *book,
+                                          struct flailreeve_place *place);
 
-/* Length: how many elements a list has. It changes nothing but `*length`.
+/* Length: how many elements a list has. It changes nothing but `*length` and `*place`.
  *
  * Gives 0, and the length in `*length`.
- * Gives 1, 3: as check.
+ * Gives 1, 9 to 15: as check, with the place.
  * Gives 4: there is no list of that number.
  * Refused, it writes 0 to `*length`. */
 FLAILREEVE_CALL uint16_t flailreeve_length(const uint16_t *links, size_t links_len, const uint64_t *values,
                                            size_t values_len, const struct flailreeve_book *book, uint16_t list,
-                                           uint16_t *length);
+                                           uint16_t *length, struct flailreeve_place *place);
 
 /* Push back: a value becomes the last element of a list, in the slot at the free head. Only the new slot, the slot that was
  * last and, in the book, the list's ends and the free head change.
  *
  * Gives 0: the value is in the list.
- * Gives 1, 3: as check.
+ * Gives 1, 9 to 15: as check, with the place.
  * Gives 4: there is no list of that number.
  * Gives 6: the list's length equals its limit.
  * Gives 7: the list is under its limit but has its share, and no slot is free, or those that are free are kept for other
  * lists.
- * Refused, it changes nothing. */
+ * Refused, it changes nothing but `*place`. */
 FLAILREEVE_CALL uint16_t flailreeve_push_back(uint16_t *links, size_t links_len, uint64_t *values, size_t values_len,
-                                              struct flailreeve_book *book, uint16_t list, uint64_t value);
+                                              struct flailreeve_book *book, uint16_t list, uint64_t value,
+                                              struct flailreeve_place *place);
 
 /* Push front: as push back, at the other end: the value becomes the first element of the list, and the slot that was first
- * changes. Gives 0, 1, 3, 4, 6 or 7 as push back does; refused, it changes nothing. */
+ * changes. Gives 0, 1, 9 to 15, 4, 6 or 7 as push back does; refused, it changes nothing but `*place`. */
 FLAILREEVE_CALL uint16_t flailreeve_push_front(uint16_t *links, size_t links_len, uint64_t *values, size_t values_len,
-                                               struct flailreeve_book *book, uint16_t list, uint64_t value);
+                                               struct flailreeve_book *book, uint16_t list, uint64_t value,
+                                               struct flailreeve_place *place);
 
 /* Pop back: takes the last element out of a list. Its slot is wiped to 0 and becomes the free head. Only that slot, its
  * neighbour and, in the book, the list's ends and the free head change.
  *
  * Gives 0, and the element in `*value`. The slot that held it holds 0.
- * Gives 1, 3: as check.
+ * Gives 1, 9 to 15: as check, with the place.
  * Gives 4: there is no list of that number.
  * Gives 5: the list is empty.
- * Refused, it writes 0 to `*value` and changes nothing else. */
+ * Refused, it writes 0 to `*value` and changes nothing else but `*place`. */
 FLAILREEVE_CALL uint16_t flailreeve_pop_back(uint16_t *links, size_t links_len, uint64_t *values, size_t values_len,
-                                             struct flailreeve_book *book, uint16_t list, uint64_t *value);
+                                             struct flailreeve_book *book, uint16_t list, uint64_t *value,
+                                             struct flailreeve_place *place);
 
-/* Pop front: as pop back, at the other end: it takes the first element. Gives 0, 1, 3, 4 or 5 as pop back does; refused, it
- * writes 0 to `*value` and changes nothing else. */
+/* Pop front: as pop back, at the other end: it takes the first element. Gives 0, 1, 9 to 15, 4 or 5 as pop back does; refused,
+ * it writes 0 to `*value` and changes nothing else but `*place`. */
 FLAILREEVE_CALL uint16_t flailreeve_pop_front(uint16_t *links, size_t links_len, uint64_t *values, size_t values_len,
-                                              struct flailreeve_book *book, uint16_t list, uint64_t *value);
+                                              struct flailreeve_book *book, uint16_t list, uint64_t *value,
+                                              struct flailreeve_place *place);
 
-/* Read forward: copies a list's elements, first to last, into `out` from place `at` on. The list keeps them. Every other
- * place of `out` keeps what it held. Reading an empty list at at == out_len is done and writes nothing.
+/* Read forward: copies a list's elements, first to last, into `out` from out[at] on. The list keeps them. Every other cell
+ * of `out` keeps what it held. Reading an empty list at at == out_len is done and writes nothing.
  *
  * Gives 0, and how many were written in `*count`.
- * Gives 1, 3: as check.
+ * Gives 1, 9 to 15: as check, with the place.
  * Gives 4: there is no list of that number.
  * Gives 8: at > out_len, or out_len - at is less than the list's length.
- * Refused, it writes 0 to `*count` and changes nothing else. */
+ * Refused, it writes 0 to `*count` and changes nothing else but `*place`. */
 FLAILREEVE_CALL uint16_t flailreeve_read_forward(const uint16_t *links, size_t links_len, const uint64_t *values,
                                                  size_t values_len, const struct flailreeve_book *book, uint16_t list,
-                                                 uint64_t *out, size_t out_len, size_t at, uint16_t *count);
+                                                 uint64_t *out, size_t out_len, size_t at, uint16_t *count,
+                                                 struct flailreeve_place *place);
 
-/* Read backward: as read forward, last to first. Gives 0, 1, 3, 4 or 8 as read forward does; refused, it writes 0 to `*count`
- * and changes nothing else. */
+/* Read backward: as read forward, last to first. Gives 0, 1, 9 to 15, 4 or 8 as read forward does; refused, it writes 0 to
+ * `*count` and changes nothing else but `*place`. */
 FLAILREEVE_CALL uint16_t flailreeve_read_backward(const uint16_t *links, size_t links_len, const uint64_t *values,
                                                   size_t values_len, const struct flailreeve_book *book, uint16_t list,
-                                                  uint64_t *out, size_t out_len, size_t at, uint16_t *count);
+                                                  uint64_t *out, size_t out_len, size_t at, uint16_t *count,
+                                                  struct flailreeve_place *place);
 
 /* Clear: empties a list, as popping its front until it is empty would. Every slot that it had is wiped to 0 and free. An
  * empty list is cleared too.
  *
  * Gives 0: the list is empty, and every slot that it had holds 0.
- * Gives 1, 3: as check.
+ * Gives 1, 9 to 15: as check, with the place.
  * Gives 4: there is no list of that number.
- * Refused, it changes nothing: what the list held is still there. In a pool that is not sound, setup wipes every slot. */
+ * Refused, it changes nothing but `*place`: what the list held is still there. In a pool that is not sound, setup wipes every
+ * slot. */
 FLAILREEVE_CALL uint16_t flailreeve_clear(uint16_t *links, size_t links_len, uint64_t *values, size_t values_len,
-                                          struct flailreeve_book *book, uint16_t list);
+                                          struct flailreeve_book *book, uint16_t list, struct flailreeve_place *place);
 
 /* ---- beside the ten calls */
 
@@ -242,8 +300,8 @@ FLAILREEVE_CALL uint16_t flailreeve_clear(uint16_t *links, size_t links_len, uin
 uint16_t flailreeve_version(void);
 
 /* The text of a number that a call returned, in English, printable ASCII, with no null behind it. It gives how many bytes it
- * wrote to `out` from its first place on; every other place keeps what it held. Where they do not all fit it gives 0 and
- * writes nothing; FLAILREEVE_TEXT_BYTES places are enough for any text. Every number has a text. */
+ * wrote to `out` from its first byte on; every other byte keeps what it held. Where they do not all fit it gives 0 and
+ * writes nothing; FLAILREEVE_TEXT_BYTES bytes are enough for any text. Every number has a text. */
 enum { FLAILREEVE_TEXT_BYTES = 64 };
 FLAILREEVE_CALL size_t flailreeve_text(uint16_t number, uint8_t *out, size_t out_len);
 

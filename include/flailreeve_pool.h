@@ -29,61 +29,64 @@ FLAILREEVE_INLINE uint16_t flailreeve_pool_setup(const struct flailreeve_pool *p
     return flailreeve_setup(pool->links, pool->links_len, pool->values, pool->values_len, lists, shares, limits, book);
 }
 
-FLAILREEVE_INLINE uint16_t flailreeve_pool_check(const struct flailreeve_pool *pool, const struct flailreeve_book *book)
+FLAILREEVE_INLINE uint16_t flailreeve_pool_check(const struct flailreeve_pool *pool, const struct flailreeve_book *book,
+                                                 struct flailreeve_place *place)
 {
-    return flailreeve_check(pool->links, pool->links_len, pool->values, pool->values_len, book);
+    return flailreeve_check(pool->links, pool->links_len, pool->values, pool->values_len, book, place);
 }
 
 FLAILREEVE_INLINE uint16_t flailreeve_pool_length(const struct flailreeve_pool *pool, const struct flailreeve_book *book,
-                                                  uint16_t list, uint16_t *length)
+                                                  uint16_t list, uint16_t *length, struct flailreeve_place *place)
 {
-    return flailreeve_length(pool->links, pool->links_len, pool->values, pool->values_len, book, list, length);
+    return flailreeve_length(pool->links, pool->links_len, pool->values, pool->values_len, book, list, length, place);
 }
 
 FLAILREEVE_INLINE uint16_t flailreeve_pool_push_back(const struct flailreeve_pool *pool, struct flailreeve_book *book,
-                                                     uint16_t list, uint64_t value)
+                                                     uint16_t list, uint64_t value, struct flailreeve_place *place)
 {
-    return flailreeve_push_back(pool->links, pool->links_len, pool->values, pool->values_len, book, list, value);
+    return flailreeve_push_back(pool->links, pool->links_len, pool->values, pool->values_len, book, list, value, place);
 }
 
 FLAILREEVE_INLINE uint16_t flailreeve_pool_push_front(const struct flailreeve_pool *pool, struct flailreeve_book *book,
-                                                      uint16_t list, uint64_t value)
+                                                      uint16_t list, uint64_t value, struct flailreeve_place *place)
 {
-    return flailreeve_push_front(pool->links, pool->links_len, pool->values, pool->values_len, book, list, value);
+    return flailreeve_push_front(pool->links, pool->links_len, pool->values, pool->values_len, book, list, value, place);
 }
 
 FLAILREEVE_INLINE uint16_t flailreeve_pool_pop_back(const struct flailreeve_pool *pool, struct flailreeve_book *book,
-                                                    uint16_t list, uint64_t *value)
+                                                    uint16_t list, uint64_t *value, struct flailreeve_place *place)
 {
-    return flailreeve_pop_back(pool->links, pool->links_len, pool->values, pool->values_len, book, list, value);
+    return flailreeve_pop_back(pool->links, pool->links_len, pool->values, pool->values_len, book, list, value, place);
 }
 
 FLAILREEVE_INLINE uint16_t flailreeve_pool_pop_front(const struct flailreeve_pool *pool, struct flailreeve_book *book,
-                                                     uint16_t list, uint64_t *value)
+                                                     uint16_t list, uint64_t *value, struct flailreeve_place *place)
 {
-    return flailreeve_pop_front(pool->links, pool->links_len, pool->values, pool->values_len, book, list, value);
+    return flailreeve_pop_front(pool->links, pool->links_len, pool->values, pool->values_len, book, list, value, place);
 }
 
 FLAILREEVE_INLINE uint16_t flailreeve_pool_read_forward(const struct flailreeve_pool *pool,
                                                         const struct flailreeve_book *book, uint16_t list, uint64_t *out,
-                                                        size_t out_len, size_t at, uint16_t *count)
+                                                        size_t out_len, size_t at, uint16_t *count,
+                                                        struct flailreeve_place *place)
 {
     return flailreeve_read_forward(pool->links, pool->links_len, pool->values, pool->values_len, book, list, out, out_len,
-                                   at, count);
+                                   at, count, place);
 }
 
 FLAILREEVE_INLINE uint16_t flailreeve_pool_read_backward(const struct flailreeve_pool *pool,
                                                          const struct flailreeve_book *book, uint16_t list,
-                                                         uint64_t *out, size_t out_len, size_t at, uint16_t *count)
+                                                         uint64_t *out, size_t out_len, size_t at, uint16_t *count,
+                                                         struct flailreeve_place *place)
 {
     return flailreeve_read_backward(pool->links, pool->links_len, pool->values, pool->values_len, book, list, out, out_len,
-                                    at, count);
+                                    at, count, place);
 }
 
 FLAILREEVE_INLINE uint16_t flailreeve_pool_clear(const struct flailreeve_pool *pool, struct flailreeve_book *book,
-                                                 uint16_t list)
+                                                 uint16_t list, struct flailreeve_place *place)
 {
-    return flailreeve_clear(pool->links, pool->links_len, pool->values, pool->values_len, book, list);
+    return flailreeve_clear(pool->links, pool->links_len, pool->values, pool->values_len, book, list, place);
 }
 
 #undef FLAILREEVE_INLINE

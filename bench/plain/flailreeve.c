@@ -1,6 +1,6 @@
 /* The ten calls in plain C, as a careful firmware engineer would write them, with the version and the texts: what the archive's cost is held against, and what
  * the faults of tests/c are planted in. The check is one pass over the pool and hands on what it found in registers; a call
- * stores to no cell twice, and clears nothing that it writes anyway. */
+ * stores to no cell twice, and clears nothing that it writes anyway. Where a pool is broken is worked out only when it is. */
 #include "flailreeve.h"
 
 #include <stdbool.h>
@@ -8,7 +8,7 @@
 
 /* What a look at the pool found. It is two machine words, so that it is handed back in registers. */
 struct found {
-    size_t number;   /* 0, or why the call is refused: 1, 3 or 4 */
+    size_t number;   /* 0, or why the call is refused: 1, 9 to 15 or 4 */
     uint32_t length; /* of the list that was asked for */
     uint32_t spare;  /* free slots beyond those that lists still lack of their shares */
 };
@@ -23,69 +23,116 @@ static bool sizes_fit(size_t links_len, size_t values_len)
     return links_len == values_len && links_len >= FLAILREEVE_SMALLEST_POOL && links_len <= FLAILREEVE_LARGEST_POOL;
 }
 
-static struct found refused(size_t number)
+static struct found refused(size_t number, size_t list, size_t position, struct flailreeve_place *place)
 {
+    *place = (struct flailreeve_place){(uint16_t)list, (uint16_t)position};
     return (struct found){number, 0, 0};
 }
 
+/* The rules of the book, for a book as it stands: L, shares and limits; from L on every word is 0. */
+static inline bool book_keeps_rules(const struct flailreeve_book *book, size_t n)
+{
+    size_t sum = 0;
+    size_t k;
+
+    if (book->lists < 1 || book->lists > FLAILREEVE_BOOK_LISTS)
+        return false;
+    for (k = 0; k < book->lists; k++) {
+        if (book->list[k].share > book->list[k].limit || book->list[k].limit >= n)
+            return false;
+        sum += book->list[k].share;
+    }
+    for (; k < FLAILREEVE_BOOK_LISTS; k++)
+        if (memcmp(&book->list[k], &no_list, sizeof no_list) != 0)
+            return false;
+    return sum < n;
+}
+
+/* Something is wrong with the free slots: which rule is broken first, and where. `met` has the slots of the lists. The chain is
+ * walked once more, now with marks, and then the slots are gone through by their numbers. */
+static struct found free_refused(const uint16_t *links, const uint64_t *values, size_t n, size_t free_head, uint8_t *met,
+                                 struct flailreeve_place *place)
+{
+    enum { FREE = 2 };
+    size_t position = 0;
+    size_t slot;
+
+    for (slot = free_head; slot < n && !met[slot]; slot = links[slot]) {
+        met[slot] = FREE;
+        position++;
+    }
+    if (slot != 0)
+        return refused(FLAILREEVE_BROKEN_FREE_CHAIN, 0, position, place);
+    for (slot = 1; slot < n; slot++)
+        if (!met[slot])
+            return refused(FLAILREEVE_LOST_SLOT, 0, slot, place);
+    /* Neither: so there is a free slot whose value is not 0. */
+    for (slot = 1; slot < n - 1; slot++)
+        if (met[slot] == FREE && values[slot] != 0)
+            break;
+    return refused(FLAILREEVE_UNWIPED_SLOT, 0, slot, place);
+}
+
 /* Checks the pool in one pass over the book, the lists and the free slots, and then the list number. The walks stand here and not
- * in functions of their own: gcc reaches a local array in fewer instructions than one that is handed on by a pointer. */
+ * in functions of their own: gcc reaches a local array in fewer instructions than one that is handed on by a pointer. The place
+ * is written once, whatever is found. */
 static struct found look(const uint16_t *links, size_t links_len, const uint64_t *values, size_t values_len,
-                         const struct flailreeve_book *book, uint16_t wanted)
+                         const struct flailreeve_book *book, uint16_t wanted, struct flailreeve_place *place)
 {
     uint8_t met[FLAILREEVE_LARGEST_POOL]; /* for each slot 1 where a list has it */
     uint16_t lengths[FLAILREEVE_BOOK_LISTS];
     size_t n = links_len;
     size_t left = n - 1; /* slots that no list has: so many must be free */
     size_t taken = 0;    /* slots that the lists have, or still lack of their shares */
+    size_t over;         /* the lowest list that is over its limit, else L */
     size_t k, slot;
 
     if (!sizes_fit(links_len, values_len))
-        return refused(FLAILREEVE_REFUSED_SIZES);
-    if (book->lists < 1 || book->lists > FLAILREEVE_BOOK_LISTS || links[0] != 0 || values[0] != 0)
-        return refused(FLAILREEVE_REFUSED_UNSOUND);
+        return refused(FLAILREEVE_REFUSED_SIZES, 0, 0, place);
+    if (!book_keeps_rules(book, n))
+        return refused(FLAILREEVE_BROKEN_BOOK, 0, 0, place);
+    if (links[0] != 0 || values[0] != 0)
+        return refused(FLAILREEVE_BROKEN_NULL_SLOT, 0, 0, place);
     memset(met, 0, n);
-    met[0] = 1; /* so that free slots that end too early are refused */
+    met[0] = 1; /* so that a walk stops at the chain's end as it does at a slot that it met before */
+    over = book->lists;
     for (k = 0; k < book->lists; k++) {
         const struct flailreeve_list *list = &book->list[k];
         size_t length = 0;
         size_t last = 0;
-        size_t takes;
 
         slot = list->head;
-        while (last != list->tail) {
-            size_t next;
+        while (slot < n && !met[slot]) {
+            size_t next = links[slot] ^ last;
 
-            if (slot >= n || met[slot])
-                return refused(FLAILREEVE_REFUSED_UNSOUND);
             met[slot] = 1;
             length++;
-            next = links[slot] ^ last;
             last = slot;
             slot = next;
         }
-        takes = length > list->share ? length : list->share;
-        if (slot != 0 || takes > list->limit || list->limit >= n)
-            return refused(FLAILREEVE_REFUSED_UNSOUND);
+        if (slot != 0 || last != list->tail)
+            return refused(FLAILREEVE_BROKEN_LIST, k, length, place);
+        if (length > list->limit && over == book->lists)
+            over = k;
         left -= length;
-        taken += takes;
+        taken += length > list->share ? length : list->share;
         lengths[k] = (uint16_t)length;
     }
-    for (; k < FLAILREEVE_BOOK_LISTS; k++)
-        if (memcmp(&book->list[k], &no_list, sizeof no_list) != 0)
-            return refused(FLAILREEVE_REFUSED_UNSOUND);
     /* Free slots need no mark: if the walk came to one twice it would go round, and not be at 0 after the last. */
     slot = book->free_head;
     for (; left > 0; left--) {
         if (slot >= n || met[slot] || values[slot] != 0)
-            return refused(FLAILREEVE_REFUSED_UNSOUND);
+            return free_refused(links, values, n, book->free_head, met, place);
         slot = links[slot];
     }
-    /* More than N-1 are taken where the free slots do not cover what is lacked, and where the shares add up to more. */
-    if (slot != 0 || taken >= n)
-        return refused(FLAILREEVE_REFUSED_UNSOUND);
+    if (slot != 0)
+        return free_refused(links, values, n, book->free_head, met, place);
+    /* More than N-1 are taken where the free slots do not cover what is lacked. */
+    if (over != book->lists || taken >= n)
+        return refused(FLAILREEVE_OVER_LIMIT, over, 0, place);
     if (wanted >= book->lists)
-        return refused(FLAILREEVE_REFUSED_NO_LIST);
+        return refused(FLAILREEVE_REFUSED_NO_LIST, 0, 0, place);
+    *place = (struct flailreeve_place){0, 0};
     return (struct found){FLAILREEVE_DONE, lengths[wanted], (uint32_t)(n - 1 - taken)};
 }
 
@@ -132,16 +179,17 @@ uint16_t flailreeve_setup(uint16_t *links, size_t links_len, uint64_t *values, s
 }
 
 uint16_t flailreeve_check(const uint16_t *links, size_t links_len, const uint64_t *values, size_t values_len,
-                          const struct flailreeve_book *book)
+                          const struct flailreeve_book *book, struct flailreeve_place *place)
 {
     /* Every sound book has a list 0, so 4 is never the answer. */
-    return (uint16_t)look(links, links_len, values, values_len, book, 0).number;
+    return (uint16_t)look(links, links_len, values, values_len, book, 0, place).number;
 }
 
 uint16_t flailreeve_length(const uint16_t *links, size_t links_len, const uint64_t *values, size_t values_len,
-                           const struct flailreeve_book *book, uint16_t list, uint16_t *length)
+                           const struct flailreeve_book *book, uint16_t list, uint16_t *length,
+                           struct flailreeve_place *place)
 {
-    struct found found = look(links, links_len, values, values_len, book, list);
+    struct found found = look(links, links_len, values, values_len, book, list, place);
 
     *length = found.number == FLAILREEVE_DONE ? (uint16_t)found.length : 0;
     return (uint16_t)found.number;
@@ -149,9 +197,10 @@ uint16_t flailreeve_length(const uint16_t *links, size_t links_len, const uint64
 
 /* The slot at the free head becomes an end of the list. */
 static inline uint16_t push(uint16_t *links, size_t links_len, uint64_t *values, size_t values_len,
-                            struct flailreeve_book *book, uint16_t list, uint64_t value, enum end end)
+                            struct flailreeve_book *book, uint16_t list, uint64_t value, enum end end,
+                            struct flailreeve_place *place)
 {
-    struct found found = look(links, links_len, values, values_len, book, list);
+    struct found found = look(links, links_len, values, values_len, book, list, place);
     struct flailreeve_list *to;
     uint16_t *near_end, *far_end;
     uint16_t slot, neighbour;
@@ -179,22 +228,23 @@ static inline uint16_t push(uint16_t *links, size_t links_len, uint64_t *values,
 }
 
 uint16_t flailreeve_push_back(uint16_t *links, size_t links_len, uint64_t *values, size_t values_len,
-                              struct flailreeve_book *book, uint16_t list, uint64_t value)
+                              struct flailreeve_book *book, uint16_t list, uint64_t value, struct flailreeve_place *place)
 {
-    return push(links, links_len, values, values_len, book, list, value, BACK);
+    return push(links, links_len, values, values_len, book, list, value, BACK, place);
 }
 
 uint16_t flailreeve_push_front(uint16_t *links, size_t links_len, uint64_t *values, size_t values_len,
-                               struct flailreeve_book *book, uint16_t list, uint64_t value)
+                               struct flailreeve_book *book, uint16_t list, uint64_t value, struct flailreeve_place *place)
 {
-    return push(links, links_len, values, values_len, book, list, value, FRONT);
+    return push(links, links_len, values, values_len, book, list, value, FRONT, place);
 }
 
 /* The slot at an end of the list leaves it, is wiped and becomes the free head. */
 static inline uint16_t pop(uint16_t *links, size_t links_len, uint64_t *values, size_t values_len,
-                           struct flailreeve_book *book, uint16_t list, uint64_t *value, enum end end)
+                           struct flailreeve_book *book, uint16_t list, uint64_t *value, enum end end,
+                           struct flailreeve_place *place)
 {
-    struct found found = look(links, links_len, values, values_len, book, list);
+    struct found found = look(links, links_len, values, values_len, book, list, place);
     struct flailreeve_list *from;
     uint16_t *near_end, *far_end;
     uint16_t slot, neighbour;
@@ -223,23 +273,23 @@ static inline uint16_t pop(uint16_t *links, size_t links_len, uint64_t *values, 
 }
 
 uint16_t flailreeve_pop_back(uint16_t *links, size_t links_len, uint64_t *values, size_t values_len,
-                             struct flailreeve_book *book, uint16_t list, uint64_t *value)
+                             struct flailreeve_book *book, uint16_t list, uint64_t *value, struct flailreeve_place *place)
 {
-    return pop(links, links_len, values, values_len, book, list, value, BACK);
+    return pop(links, links_len, values, values_len, book, list, value, BACK, place);
 }
 
 uint16_t flailreeve_pop_front(uint16_t *links, size_t links_len, uint64_t *values, size_t values_len,
-                              struct flailreeve_book *book, uint16_t list, uint64_t *value)
+                              struct flailreeve_book *book, uint16_t list, uint64_t *value, struct flailreeve_place *place)
 {
-    return pop(links, links_len, values, values_len, book, list, value, FRONT);
+    return pop(links, links_len, values, values_len, book, list, value, FRONT, place);
 }
 
 /* Copies the list from one end to the other. */
 static inline uint16_t read(const uint16_t *links, size_t links_len, const uint64_t *values, size_t values_len,
                             const struct flailreeve_book *book, uint16_t list, uint64_t *out, size_t out_len, size_t at,
-                            uint16_t *count, enum end from)
+                            uint16_t *count, enum end from, struct flailreeve_place *place)
 {
-    struct found found = look(links, links_len, values, values_len, book, list);
+    struct found found = look(links, links_len, values, values_len, book, list, place);
     size_t last = 0;
     size_t slot;
 
@@ -263,24 +313,24 @@ static inline uint16_t read(const uint16_t *links, size_t links_len, const uint6
 
 uint16_t flailreeve_read_forward(const uint16_t *links, size_t links_len, const uint64_t *values, size_t values_len,
                                  const struct flailreeve_book *book, uint16_t list, uint64_t *out, size_t out_len,
-                                 size_t at, uint16_t *count)
+                                 size_t at, uint16_t *count, struct flailreeve_place *place)
 {
-    return read(links, links_len, values, values_len, book, list, out, out_len, at, count, FRONT);
+    return read(links, links_len, values, values_len, book, list, out, out_len, at, count, FRONT, place);
 }
 
 uint16_t flailreeve_read_backward(const uint16_t *links, size_t links_len, const uint64_t *values, size_t values_len,
                                   const struct flailreeve_book *book, uint16_t list, uint64_t *out, size_t out_len,
-                                  size_t at, uint16_t *count)
+                                  size_t at, uint16_t *count, struct flailreeve_place *place)
 {
-    return read(links, links_len, values, values_len, book, list, out, out_len, at, count, BACK);
+    return read(links, links_len, values, values_len, book, list, out, out_len, at, count, BACK, place);
 }
 
 /* Pops at the front would free the first slot first. So the last slot becomes the free head, each slot is linked to the one
  * before it in the list, and the first slot to the free head of before. */
 uint16_t flailreeve_clear(uint16_t *links, size_t links_len, uint64_t *values, size_t values_len,
-                          struct flailreeve_book *book, uint16_t list)
+                          struct flailreeve_book *book, uint16_t list, struct flailreeve_place *place)
 {
-    struct found found = look(links, links_len, values, values_len, book, list);
+    struct found found = look(links, links_len, values, values_len, book, list, place);
     struct flailreeve_list *from;
     size_t slot, first, last = 0;
 
@@ -321,6 +371,13 @@ size_t flailreeve_text(uint16_t number, uint8_t *out, size_t out_len)
         "the list is at its limit",
         "no slot is free but those kept for other lists",
         "the buffer is too small",
+        "the book's lists, shares or limits break the rules",
+        "slot 0 is not zero",
+        "a list's chain is broken",
+        "the free chain is broken",
+        "a slot is in no chain",
+        "a free slot is not wiped",
+        "a list is over its limit, or the shares are not covered",
     };
     const char *text = "this version does not know the number";
     size_t bytes;

@@ -9,6 +9,7 @@ enum { SLOTS = 12 };
 static uint16_t links[SLOTS];
 static uint64_t values[SLOTS];
 static struct flailreeve_book book;
+static struct flailreeve_place place; /* where the pool is broken, if it is */
 
 enum queue { PIN_BLOCKS, KEY_EVENTS, HOST_REPLIES, QUEUES };
 static const char *const queue_names[QUEUES] = {"PIN blocks", "key events", "host replies"};
@@ -29,7 +30,7 @@ static uint64_t letters(const char *text)
 static void must(uint16_t number)
 {
     if (number != FLAILREEVE_DONE) {
-        printf("refused by %u\n", number);
+        printf("refused by %u, list %u, position %u\n", number, place.list, place.position);
         exit(1);
     }
 }
@@ -39,7 +40,7 @@ static void show_lengths(void)
     for (uint16_t queue = 0; queue < QUEUES; queue++) {
         uint16_t length;
 
-        must(flailreeve_length(links, SLOTS, values, SLOTS, &book, queue, &length));
+        must(flailreeve_length(links, SLOTS, values, SLOTS, &book, queue, &length, &place));
         printf("  %-12s  share %u, limit %2u, holds %u\n", queue_names[queue], book.list[queue].share,
                book.list[queue].limit, length);
     }
@@ -66,7 +67,8 @@ static void flood(void)
     uint16_t number = FLAILREEVE_DONE;
 
     for (int key = 0; key < 100; key++) {
-        uint16_t answer = flailreeve_push_back(links, SLOTS, values, SLOTS, &book, KEY_EVENTS, letters("KEYPRESS"));
+        uint16_t answer =
+            flailreeve_push_back(links, SLOTS, values, SLOTS, &book, KEY_EVENTS, letters("KEYPRESS"), &place);
 
         if (answer == FLAILREEVE_DONE)
             taken++;
@@ -83,16 +85,16 @@ int main(void)
         return 1;
     }
     must(flailreeve_setup(links, SLOTS, values, SLOTS, QUEUES, shares, limits, &book));
-    must(flailreeve_push_back(links, SLOTS, values, SLOTS, &book, PIN_BLOCKS, letters("PINBLOK1")));
+    must(flailreeve_push_back(links, SLOTS, values, SLOTS, &book, PIN_BLOCKS, letters("PINBLOK1"), &place));
     flood();
-    must(flailreeve_push_back(links, SLOTS, values, SLOTS, &book, PIN_BLOCKS, letters("PINBLOK2")));
-    must(flailreeve_push_back(links, SLOTS, values, SLOTS, &book, PIN_BLOCKS, letters("PINBLOK3")));
-    must(flailreeve_push_back(links, SLOTS, values, SLOTS, &book, HOST_REPLIES, letters("HOSTACK1")));
+    must(flailreeve_push_back(links, SLOTS, values, SLOTS, &book, PIN_BLOCKS, letters("PINBLOK2"), &place));
+    must(flailreeve_push_back(links, SLOTS, values, SLOTS, &book, PIN_BLOCKS, letters("PINBLOK3"), &place));
+    must(flailreeve_push_back(links, SLOTS, values, SLOTS, &book, HOST_REPLIES, letters("HOSTACK1"), &place));
     puts("then two more PIN blocks and a host reply: all taken");
     show_lengths();
     puts("the memory before Cancel");
     show_memory();
-    must(flailreeve_clear(links, SLOTS, values, SLOTS, &book, PIN_BLOCKS));
+    must(flailreeve_clear(links, SLOTS, values, SLOTS, &book, PIN_BLOCKS, &place));
     puts("the memory after Cancel");
     show_memory();
     show_lengths();

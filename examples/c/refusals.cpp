@@ -9,6 +9,7 @@ constexpr size_t slots = 4;
 uint16_t links[slots];
 uint64_t values[slots];
 flailreeve_book book;
+flailreeve_place place;
 const flailreeve_pool pool = {links, slots, values, slots};
 
 // List 0 may have all three slots and list 1 is owed one; list 2 may have none.
@@ -20,7 +21,10 @@ void show(const char *what, uint16_t number)
     uint8_t text[FLAILREEVE_TEXT_BYTES];
     const size_t bytes = flailreeve_text(number, text, sizeof text);
 
-    std::printf("%-46s %u %.*s\n", what, number, static_cast<int>(bytes), reinterpret_cast<const char *>(text));
+    std::printf("%-46s %2u %.*s", what, number, static_cast<int>(bytes), reinterpret_cast<const char *>(text));
+    if (number >= FLAILREEVE_BROKEN_BOOK)
+        std::printf(": list %u, position %u", place.list, place.position);
+    std::printf("\n");
 }
 
 } // namespace
@@ -39,15 +43,15 @@ int main()
     show("setup of a pool whose buffers differ", flailreeve_pool_setup(&odd, 3, shares, limits, &book));
     show("setup with no list", flailreeve_pool_setup(&pool, 0, shares, limits, &book));
     show("setup with three lists", flailreeve_pool_setup(&pool, 3, shares, limits, &book));
-    show("pop of an empty list", flailreeve_pool_pop_front(&pool, &book, 0, &value));
-    show("push on a list that may have none", flailreeve_pool_push_back(&pool, &book, 2, 1));
-    show("push on a list that there is not", flailreeve_pool_push_back(&pool, &book, 3, 1));
-    show("push of a first value", flailreeve_pool_push_back(&pool, &book, 0, 11));
-    show("push of a second value", flailreeve_pool_push_back(&pool, &book, 0, 12));
-    show("push of a third, where one slot is list 1's", flailreeve_pool_push_back(&pool, &book, 0, 13));
-    show("read of two values into one place", flailreeve_pool_read_forward(&pool, &book, 0, out, 1, 0, &count));
+    show("pop of an empty list", flailreeve_pool_pop_front(&pool, &book, 0, &value, &place));
+    show("push on a list that may have none", flailreeve_pool_push_back(&pool, &book, 2, 1, &place));
+    show("push on a list that there is not", flailreeve_pool_push_back(&pool, &book, 3, 1, &place));
+    show("push of a first value", flailreeve_pool_push_back(&pool, &book, 0, 11, &place));
+    show("push of a second value", flailreeve_pool_push_back(&pool, &book, 0, 12, &place));
+    show("push of a third, where one slot is list 1's", flailreeve_pool_push_back(&pool, &book, 0, 13, &place));
+    show("read of two values into one cell", flailreeve_pool_read_forward(&pool, &book, 0, out, 1, 0, &count, &place));
     values[3] = 1; // slot 3 is free, and something wrote to it
-    show("length, after a free slot was written to", flailreeve_pool_length(&pool, &book, 0, &count));
+    show("length, after a free slot was written to", flailreeve_pool_length(&pool, &book, 0, &count, &place));
     show("setup again, which wipes every slot", flailreeve_pool_setup(&pool, 3, shares, limits, &book));
     return 0;
 }

@@ -23,7 +23,10 @@ void must_be(const char *what, unsigned long got, unsigned long wanted)
         fail(what, "got " + std::to_string(got) + ", wanted " + std::to_string(wanted));
 }
 
-// The notices, "number: text" a line, and under 9 what every other number shows.
+// The last number that has a text of its own. What the numbers above it show stands in the notices under the next and under 65,535.
+constexpr unsigned last_number = FLAILREEVE_OVER_LIMIT;
+
+// The notices, "number: text" a line.
 std::map<unsigned, std::string> read_notices(const char *file)
 {
     std::map<unsigned, std::string> notices;
@@ -37,8 +40,13 @@ std::map<unsigned, std::string> read_notices(const char *file)
             fail("the notices", line);
         notices[static_cast<unsigned>(std::stoul(line))] = line.substr(colon + 2);
     }
-    if (notices.size() < 10 || notices.count(9) == 0)
-        fail("the notices", "they are not all there");
+    for (unsigned number = 0; number <= last_number + 1; number++)
+        if (notices.count(number) == 0)
+            fail("the notices", "there is none for " + std::to_string(number));
+    if (notices.count(65535) == 0 || notices[65535] != notices[last_number + 1])
+        fail("the notices", "two numbers that are not known have different texts");
+    if (notices[last_number] == notices[65535])
+        fail("the notices", "the last number has no text of its own");
     return notices;
 }
 
@@ -64,7 +72,7 @@ void texts(const char *file)
 
     for (unsigned number = 0; number <= 65535; number++) {
         auto known = notices.find(number);
-        const std::string &text = known == notices.end() ? notices.at(9) : known->second;
+        const std::string &text = known == notices.end() ? notices.at(65535) : known->second;
         size_t most = number < 32 || number > 65530 ? FLAILREEVE_TEXT_BYTES + 2 : text.size();
 
         if (text.size() > FLAILREEVE_TEXT_BYTES)
@@ -81,12 +89,14 @@ struct ground {
     uint64_t values[8];
     flailreeve_book book;
     uint64_t out[8];
+    flailreeve_place place;
     unsigned long answers;
 };
 
 void note(ground &g, unsigned long answer)
 {
-    g.answers = g.answers * 31 + answer;
+    g.answers = ((g.answers * 31 + answer) * 31 + g.place.list) * 31 + g.place.position;
+    g.place = {0xa5a5, 0x5a5a};
 }
 
 const uint16_t shares[8] = {2, 1};
@@ -99,20 +109,30 @@ void by_arguments(ground &g)
 
     note(g, flailreeve_setup(g.links, 8, g.values, 8, 2, shares, limits, &g.book));
     for (uint64_t k = 1; k <= 6; k++)
-        note(g, flailreeve_push_back(g.links, 8, g.values, 8, &g.book, 0, 100 + k));
-    note(g, flailreeve_push_front(g.links, 8, g.values, 8, &g.book, 1, 200));
-    note(g, flailreeve_check(g.links, 8, g.values, 8, &g.book));
-    note(g, flailreeve_length(g.links, 8, g.values, 8, &g.book, 0, &count));
+        note(g, flailreeve_push_back(g.links, 8, g.values, 8, &g.book, 0, 100 + k, &g.place));
+    note(g, flailreeve_push_front(g.links, 8, g.values, 8, &g.book, 1, 200, &g.place));
+    note(g, flailreeve_check(g.links, 8, g.values, 8, &g.book, &g.place));
+    note(g, flailreeve_length(g.links, 8, g.values, 8, &g.book, 0, &count, &g.place));
     note(g, count);
-    note(g, flailreeve_read_forward(g.links, 8, g.values, 8, &g.book, 0, g.out, 8, 1, &count));
+    note(g, flailreeve_read_forward(g.links, 8, g.values, 8, &g.book, 0, g.out, 8, 1, &count, &g.place));
     note(g, count);
-    note(g, flailreeve_pop_back(g.links, 8, g.values, 8, &g.book, 0, &value));
+    note(g, flailreeve_pop_back(g.links, 8, g.values, 8, &g.book, 0, &value, &g.place));
     note(g, value);
-    note(g, flailreeve_pop_front(g.links, 8, g.values, 8, &g.book, 0, &value));
+    note(g, flailreeve_pop_front(g.links, 8, g.values, 8, &g.book, 0, &value, &g.place));
     note(g, value);
-    note(g, flailreeve_read_backward(g.links, 8, g.values, 8, &g.book, 0, g.out, 8, 4, &count));
+    note(g, flailreeve_read_backward(g.links, 8, g.values, 8, &g.book, 0, g.out, 8, 4, &count, &g.place));
     note(g, count);
-    note(g, flailreeve_clear(g.links, 8, g.values, 8, &g.book, 1));
+    note(g, flailreeve_clear(g.links, 8, g.values, 8, &g.book, 1, &g.place));
+    g.values[g.book.free_head] = 1;
+    note(g, flailreeve_check(g.links, 8, g.values, 8, &g.book, &g.place));
+    note(g, flailreeve_length(g.links, 8, g.values, 8, &g.book, 0, &count, &g.place));
+    note(g, flailreeve_push_back(g.links, 8, g.values, 8, &g.book, 0, 1, &g.place));
+    note(g, flailreeve_push_front(g.links, 8, g.values, 8, &g.book, 0, 1, &g.place));
+    note(g, flailreeve_pop_back(g.links, 8, g.values, 8, &g.book, 0, &value, &g.place));
+    note(g, flailreeve_pop_front(g.links, 8, g.values, 8, &g.book, 0, &value, &g.place));
+    note(g, flailreeve_read_forward(g.links, 8, g.values, 8, &g.book, 0, g.out, 8, 1, &count, &g.place));
+    note(g, flailreeve_read_backward(g.links, 8, g.values, 8, &g.book, 0, g.out, 8, 1, &count, &g.place));
+    note(g, flailreeve_clear(g.links, 8, g.values, 8, &g.book, 0, &g.place));
 }
 
 void by_struct(ground &g)
@@ -123,20 +143,30 @@ void by_struct(ground &g)
 
     note(g, flailreeve_pool_setup(&pool, 2, shares, limits, &g.book));
     for (uint64_t k = 1; k <= 6; k++)
-        note(g, flailreeve_pool_push_back(&pool, &g.book, 0, 100 + k));
-    note(g, flailreeve_pool_push_front(&pool, &g.book, 1, 200));
-    note(g, flailreeve_pool_check(&pool, &g.book));
-    note(g, flailreeve_pool_length(&pool, &g.book, 0, &count));
+        note(g, flailreeve_pool_push_back(&pool, &g.book, 0, 100 + k, &g.place));
+    note(g, flailreeve_pool_push_front(&pool, &g.book, 1, 200, &g.place));
+    note(g, flailreeve_pool_check(&pool, &g.book, &g.place));
+    note(g, flailreeve_pool_length(&pool, &g.book, 0, &count, &g.place));
     note(g, count);
-    note(g, flailreeve_pool_read_forward(&pool, &g.book, 0, g.out, 8, 1, &count));
+    note(g, flailreeve_pool_read_forward(&pool, &g.book, 0, g.out, 8, 1, &count, &g.place));
     note(g, count);
-    note(g, flailreeve_pool_pop_back(&pool, &g.book, 0, &value));
+    note(g, flailreeve_pool_pop_back(&pool, &g.book, 0, &value, &g.place));
     note(g, value);
-    note(g, flailreeve_pool_pop_front(&pool, &g.book, 0, &value));
+    note(g, flailreeve_pool_pop_front(&pool, &g.book, 0, &value, &g.place));
     note(g, value);
-    note(g, flailreeve_pool_read_backward(&pool, &g.book, 0, g.out, 8, 4, &count));
+    note(g, flailreeve_pool_read_backward(&pool, &g.book, 0, g.out, 8, 4, &count, &g.place));
     note(g, count);
-    note(g, flailreeve_pool_clear(&pool, &g.book, 1));
+    note(g, flailreeve_pool_clear(&pool, &g.book, 1, &g.place));
+    g.values[g.book.free_head] = 1;
+    note(g, flailreeve_pool_check(&pool, &g.book, &g.place));
+    note(g, flailreeve_pool_length(&pool, &g.book, 0, &count, &g.place));
+    note(g, flailreeve_pool_push_back(&pool, &g.book, 0, 1, &g.place));
+    note(g, flailreeve_pool_push_front(&pool, &g.book, 0, 1, &g.place));
+    note(g, flailreeve_pool_pop_back(&pool, &g.book, 0, &value, &g.place));
+    note(g, flailreeve_pool_pop_front(&pool, &g.book, 0, &value, &g.place));
+    note(g, flailreeve_pool_read_forward(&pool, &g.book, 0, g.out, 8, 1, &count, &g.place));
+    note(g, flailreeve_pool_read_backward(&pool, &g.book, 0, g.out, 8, 1, &count, &g.place));
+    note(g, flailreeve_pool_clear(&pool, &g.book, 0, &g.place));
 }
 
 void both_forms()
@@ -145,6 +175,7 @@ void both_forms()
 
     std::memset(&one, 0x5a, sizeof one);
     std::memset(&other, 0x5a, sizeof other);
+    one.answers = other.answers = 0;
     by_arguments(one);
     by_struct(other);
     if (std::memcmp(&one, &other, sizeof one) != 0)

@@ -109,6 +109,9 @@ static void make(Dice &dice, const Case &c)
         std::uint16_t got = pool.call(p.ask, paint);
         if (got != c.number)
             fail("%s gave %u in a pool of %zu slots, not %u", model::names[c.call], got, c.n, c.number);
+        if (c.call != model::setup && (pool.m.place.list != after.place.list || pool.m.place.position != after.place.position))
+            fail("%s gave the place %u, %u in a pool of %zu slots, not %u, %u", model::names[c.call], pool.m.place.list,
+                 pool.m.place.position, c.n, after.place.list, after.place.position);
         note(c);
     }
 }
@@ -238,11 +241,18 @@ int main(int count, char **arguments)
     auto made = [&](const Case &c) { make(dice, c); };
     for (unsigned i = 0; i < 24; i++)
         every_case(dice.from(2, 12), made);
-    for (std::size_t n : sizes)
-        for (unsigned i = 0; i < 4; i++)
-            every_case(n, made);
-    for (std::size_t n : {256, 1024, 4095})
+    // A broken rule is met in large pools once, the other numbers four times.
+    auto no_rule = [&](const Case &c) {
+        if (c.number < model::first_rule)
+            make(dice, c);
+    };
+    for (std::size_t n : sizes) {
         every_case(n, made);
+        for (unsigned i = 0; i < 3; i++)
+            n < 257 ? every_case(n, made) : every_case(n, no_rule);
+    }
+    for (std::size_t n : {256, 1024, 4095})
+        every_case(n, no_rule);
     for (unsigned i = 0; i < 400; i++)
         cancel(dice, dice.from(2, 12));
     for (std::size_t n : {64, 256, 257, 4096})

@@ -4,7 +4,7 @@
 
 #include <cstring>
 
-#include "dice.hpp"
+#include "harm.hpp"
 
 namespace cases {
 
@@ -43,12 +43,17 @@ inline Needs needs(const Case &c)
         need.list = 1;
     need.other = c.where == other_list;
     // A push takes a free slot. One that is refused by 7 is under its limit, so there is a slot that others hold or lack.
-    need.free = (pushes(c.call) && done) || c.where == free_slot || (c.number == 7 && c.where != other_list);
+    need.free = (pushes(c.call) && done) || c.where == free_slot || (c.number == 7 && c.where != other_list) || c.number == 14;
+    // A slot that is lost was one of the free slots, so that the lists keep theirs. A list that is over its limit has an element.
+    need.free += c.number == 13;
+    if (c.number == 15 && need.list + need.other == 0)
+        need.list = 1;
     return need;
 }
 
 // Can there be such a case? The table says which numbers a call gives. A sound pool has 0 in its free slots and in slot 0, so
-// that the block is there only if the pool is damaged or is not looked at; an empty list has it nowhere.
+// that the block is there only if the pool is damaged or is not looked at; in a free slot it is never with 15, which comes after 14,
+// and in slot 0 never with a number that comes after 10. An empty list has it nowhere.
 inline bool possible(const Case &c)
 {
     if (!model::table[c.call][c.number])
@@ -59,8 +64,10 @@ inline bool possible(const Case &c)
         return false;
     if (c.where == read_buffer && !reads(c.call))
         return false;
-    bool any_pool = c.call == model::setup || c.number == 1 || c.number == 3;
-    if ((c.where == free_slot || c.where == null_slot) && !any_pool)
+    bool any_pool = c.call == model::setup || c.number == 1;
+    if (c.where == free_slot && !any_pool && (c.number < model::first_rule || c.number == 15))
+        return false;
+    if (c.where == null_slot && !any_pool && c.number != 9 && c.number != 10)
         return false;
     if (c.number == 5 && in_the_list(c.where))
         return false;
@@ -127,30 +134,18 @@ inline void rule(Dice &dice, const Case &c, Pool &p)
     }
 }
 
-// Something that makes the pool unsound, at one place or another; the block's slot keeps its value.
-inline void damage(Dice &dice, model::Memory &m)
+// Breaks the rule of that number first; the block's slot keeps its value.
+inline void damage(Dice &dice, const Case &c, Pool &p)
 {
-    while (model::sound(m)) {
-        std::uint16_t any = dice.half(1, m.links.size());
-        std::uint16_t words[34];
-        switch (dice.from(0, 4)) {
-        case 0:
-            m.links[0] = any;
-            break;
-        case 1:
-            m.values[0] = any;
-            break;
-        case 2:
-            m.links[dice.from(1, m.links.size() - 1)] = any;
-            break;
-        case 3:
-            m.values[m.book.free_head] = any;
-            break;
-        default:
-            std::memcpy(words, &m.book, sizeof words);
-            words[dice.from(0, 33)] = any;
-            std::memcpy(&m.book, words, sizeof words);
-        }
+    const model::Memory whole = p.m;
+    while (model::first_broken(p.m).number != c.number) {
+        p.m = whole;
+        model::Harm(dice, p.q, p.m).breaks(c.number);
+        // The block was in this slot, and the rule is broken by that.
+        if (c.where == free_slot && c.number == 14)
+            p.m.values = whole.values;
+        if (c.where == null_slot)
+            p.m.values[0] = whole.values[0];
     }
 }
 
@@ -184,8 +179,8 @@ inline void ask_read(Dice &dice, const Case &c, Pool &p)
     std::size_t out = c.number == 8 ? dice.from(1, length + 3) : length + dice.from(1, 3);
     std::size_t too_far = out >= length ? out - length + 1 : 0;
     p.m.out.resize(out);
-    for (std::uint64_t &place : p.m.out)
-        place = dice.value();
+    for (std::uint64_t &cell : p.m.out)
+        cell = dice.value();
     p.ask.at = c.number == 8 ? dice.from(too_far, out + 1) : dice.from(0, out - length);
 }
 
@@ -226,8 +221,8 @@ inline Pool make(Dice &dice, const Case &c, std::uint64_t block)
     if (reads(c.call))
         ask_read(dice, c, p);
     put(dice, c, p, block);
-    if (c.number == 3)
-        damage(dice, p.m);
+    if (c.number >= model::first_rule)
+        damage(dice, c, p);
     if (c.number == 1 && dice.one_in(2))
         p.m.links.resize(dice.one_in(2) ? c.n - 1 : c.n + 1);
     else if (c.number == 1)

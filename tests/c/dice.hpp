@@ -86,8 +86,8 @@ inline std::uint16_t random_list(Dice &dice, std::size_t lists)
     return dice.one_in(12) ? dice.one_of(strange) : dice.half(0, lists == 0 ? 0 : lists - 1);
 }
 
-// A place to read to, beside the buffer's end as often as before it, and some that would wrap.
-inline std::size_t random_place(Dice &dice, std::size_t out, std::size_t length)
+// Where to read to, beside the buffer's end as often as before it, and some that would wrap.
+inline std::size_t random_at(Dice &dice, std::size_t out, std::size_t length)
 {
     const std::size_t all = ~std::size_t{0};
     const std::size_t choices[] = {0, out, out + 1, out + 2, out > length ? out - length : 0, out > length ? out - length + 1 : 1,
@@ -106,9 +106,9 @@ inline Ask random_ask(Dice &dice, std::size_t lists, std::size_t length, Memory 
     ask.value = dice.value();
     m.word = dice.word() | 1;
     m.out.resize(dice.one_in(3) ? length + dice.from(0, 3) : dice.from(0, length));
-    for (std::uint64_t &place : m.out)
-        place = dice.word();
-    ask.at = random_place(dice, m.out.size(), length);
+    for (std::uint64_t &cell : m.out)
+        cell = dice.word();
+    ask.at = random_at(dice, m.out.size(), length);
     return ask;
 }
 

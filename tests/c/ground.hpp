@@ -1,16 +1,17 @@
-// Makes one call on lent memory and holds everything that it leaves against the model: the number, every cell, every guard word.
+// Makes one call on lent memory and holds everything that it leaves against the model: the number, the place, every cell, every
+// guard word.
 #pragma once
 
 #include <csignal>
 #include <unistd.h>
 
+#include "counts.hpp"
 #include "lent.hpp"
 #include "model.hpp"
 
-// How often each call gave each number, in one run of the tests.
-inline unsigned long reached[model::calls][model::numbers];
 inline unsigned long made;            // calls made
-inline unsigned long cells_compared;  // cells, words and places compared with the model's, or with those of before
+inline unsigned long cells_compared;  // cells and words compared with the model's, or with those of before
+inline unsigned long places_compared; // places compared with the model's, both words
 inline unsigned long never_written;   // calls made on memory that cannot be written
 
 // A call that touches memory it was not lent, or writes to what it may only read, ends here.
@@ -59,7 +60,7 @@ public:
         made++;
         if (got != number)
             fail("%s gave %u, the model says %u", model::names[ask.call], got, number);
-        reached[ask.call][got < model::numbers ? got : 0]++;
+        counts::count(ask.call, m.links.size(), got, want.place, m.book.lists);
         compare(ask, want);
     }
 
@@ -72,7 +73,7 @@ public:
         m.word = *value.data();
     }
 
-    Place place = Place::between;
+    Spot spot = Spot::between;
 
 private:
     Lent<std::uint16_t> links{4100};
@@ -83,18 +84,30 @@ private:
     Lent<std::uint16_t> small{1};
     Lent<std::uint16_t> shares{8};
     Lent<std::uint16_t> limits{8};
+    Lent<flailreeve_place> place{1};
+    flailreeve_place laid = {};
+
+    // What the place holds before a call: other words each time, and words that no place has, so that one that is not written, or
+    // is written in half, is seen.
+    static flailreeve_place no_place()
+    {
+        unsigned long mixed = made * 40503u + 12345;
+        return {static_cast<std::uint16_t>(mixed | 0x8000), static_cast<std::uint16_t>(mixed >> 7 | 0x8000)};
+    }
 
     void lay(const model::Ask &ask, const model::Memory &m)
     {
         std::uint16_t low = static_cast<std::uint16_t>(m.word);
-        links.put(m.links.data(), m.links.size(), place);
-        values.put(m.values.data(), m.values.size(), place);
-        book.put(&m.book, 1, place);
-        out.put(m.out.data(), m.out.size(), place);
-        value.put(&m.word, 1, place);
-        small.put(&low, 1, place);
-        shares.put(ask.shares, 8, place);
-        limits.put(ask.limits, 8, place);
+        links.put(m.links.data(), m.links.size(), spot);
+        values.put(m.values.data(), m.values.size(), spot);
+        book.put(&m.book, 1, spot);
+        out.put(m.out.data(), m.out.size(), spot);
+        value.put(&m.word, 1, spot);
+        small.put(&low, 1, spot);
+        shares.put(ask.shares, 8, spot);
+        limits.put(ask.limits, 8, spot);
+        laid = no_place();
+        place.put(&laid, 1, spot);
     }
 
     static bool only_reads(model::Call call)
@@ -117,27 +130,28 @@ private:
         std::uint64_t *v = values.data();
         std::size_t ln = links.size(), vn = values.size();
         flailreeve_book *b = book.data();
+        flailreeve_place *p = place.data();
         switch (a.call) {
         case model::setup:
             return flailreeve_setup(l, ln, v, vn, a.lists, shares.data(), limits.data(), b);
         case model::check:
-            return flailreeve_check(l, ln, v, vn, b);
+            return flailreeve_check(l, ln, v, vn, b, p);
         case model::length:
-            return flailreeve_length(l, ln, v, vn, b, a.list, small.data());
+            return flailreeve_length(l, ln, v, vn, b, a.list, small.data(), p);
         case model::push_back:
-            return flailreeve_push_back(l, ln, v, vn, b, a.list, a.value);
+            return flailreeve_push_back(l, ln, v, vn, b, a.list, a.value, p);
         case model::push_front:
-            return flailreeve_push_front(l, ln, v, vn, b, a.list, a.value);
+            return flailreeve_push_front(l, ln, v, vn, b, a.list, a.value, p);
         case model::pop_back:
-            return flailreeve_pop_back(l, ln, v, vn, b, a.list, value.data());
+            return flailreeve_pop_back(l, ln, v, vn, b, a.list, value.data(), p);
         case model::pop_front:
-            return flailreeve_pop_front(l, ln, v, vn, b, a.list, value.data());
+            return flailreeve_pop_front(l, ln, v, vn, b, a.list, value.data(), p);
         case model::read_forward:
-            return flailreeve_read_forward(l, ln, v, vn, b, a.list, out.data(), out.size(), a.at, small.data());
+            return flailreeve_read_forward(l, ln, v, vn, b, a.list, out.data(), out.size(), a.at, small.data(), p);
         case model::read_backward:
-            return flailreeve_read_backward(l, ln, v, vn, b, a.list, out.data(), out.size(), a.at, small.data());
+            return flailreeve_read_backward(l, ln, v, vn, b, a.list, out.data(), out.size(), a.at, small.data(), p);
         default:
-            return flailreeve_clear(l, ln, v, vn, b, a.list);
+            return flailreeve_clear(l, ln, v, vn, b, a.list, p);
         }
     }
 
@@ -157,20 +171,24 @@ private:
     void compare(const model::Ask &ask, const model::Memory &want)
     {
         std::uint16_t low = static_cast<std::uint16_t>(want.word);
+        flailreeve_place there = ask.call == model::setup ? laid : want.place;  // setup is lent no place
         bool wide = ask.call == model::pop_back || ask.call == model::pop_front;
         same(ask, "link", links.data(), want.links.data(), want.links.size());
         same(ask, "value", values.data(), want.values.data(), want.values.size());
         same(ask, "word of the book", reinterpret_cast<const std::uint16_t *>(book.data()),
              reinterpret_cast<const std::uint16_t *>(&want.book), 34);
-        same(ask, "place of the buffer", out.data(), want.out.data(), want.out.size());
+        same(ask, "cell of the buffer", out.data(), want.out.data(), want.out.size());
         if (wide)
             same(ask, "the value handed out,", value.data(), &want.word, 1);
         else
             same(ask, "the length or count handed out,", small.data(), &low, 1);
+        same(ask, "the place's list,", &place.data()->list, &there.list, 1);
+        same(ask, "the place's position,", &place.data()->position, &there.position, 1);
+        places_compared++;
         same(ask, "share", shares.data(), ask.shares, 8);
         same(ask, "limit", limits.data(), ask.limits, 8);
         if (!links.guarded() || !values.guarded() || !book.guarded() || !out.guarded() || !value.guarded() ||
-            !small.guarded() || !shares.guarded() || !limits.guarded())
+            !small.guarded() || !shares.guarded() || !limits.guarded() || !place.guarded())
             fail("%s wrote beside a lent buffer", model::names[ask.call]);
     }
 };

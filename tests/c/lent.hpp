@@ -4,25 +4,12 @@
 #include <sys/mman.h>
 
 #include <cstdint>
-#include <cstdio>
-#include <cstdlib>
 #include <cstring>
 
-// Says what is wrong and ends the run. What was being tested stands in `doing`, so that the sentence has its place.
-inline char doing[256] = "nothing yet";
-
-template <typename... Parts>
-[[noreturn]] void fail(const char *words, Parts... parts)
-{
-    std::printf("tests/c: FAILED in %s: ", doing);
-    std::printf(words, parts...);
-    std::printf("\n");
-    std::fflush(stdout);
-    std::exit(1);
-}
+#include "fail.hpp"
 
 // Where a buffer lies in its room.
-enum class Place {
+enum class Spot {
     at_end,    // its last byte is the last before a page that cannot be touched
     at_start,  // its first byte is the first after such a page
     between,   // guard words on both sides, and no more than the alignment that the header asks for
@@ -40,20 +27,20 @@ public:
             fail("no memory to lend");
         room = static_cast<unsigned char *>(got) + page;
         writable();
-        put(nullptr, 0, Place::between);
+        put(nullptr, 0, Spot::between);
     }
 
     Lent(const Lent &) = delete;
     Lent &operator=(const Lent &) = delete;
 
-    // Lays `many` elements at a place, with guard words in all of the room that they leave beside them.
-    void put(const T *from, std::size_t many, Place place)
+    // Lays `many` elements at a spot, with guard words in all of the room that they leave beside them.
+    void put(const T *from, std::size_t many, Spot spot)
     {
         count = many;
         std::size_t bytes = many * sizeof(T);
-        if (place == Place::at_end)
+        if (spot == Spot::at_end)
             start = room + room_bytes - bytes;
-        else if (place == Place::at_start)
+        else if (spot == Spot::at_start)
             start = room;
         else
             start = room + guard_bytes + alignof(T);

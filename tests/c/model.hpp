@@ -1,58 +1,17 @@
 // The ten calls as document 01 tells them, over sequences: the independent model that a library is compared with.
 //
 // A list is a deque of slots with their values, the free slots are a deque, and the cells of a pool are written down from
-// these deques. Whether given cells are sound is decided by 01's definition, clause by clause, on sequences that are held
-// against the cells (`fits`); no record of slots met is kept.
+// these deques. Whether given cells are sound is decided twice: by 01's definition, clause by clause, on sequences that are held
+// against the cells (`fits`), with no record of slots met; and by 02 b)'s rules (broken.hpp), which also say where it is not. The
+// two must agree.
 #pragma once
 
-#include <cstdint>
 #include <deque>
-#include <vector>
 
-#include "flailreeve.h"
+#include "broken.hpp"
+#include "fail.hpp"
 
 namespace model {
-
-enum Call { setup, check, length, push_back, push_front, pop_back, pop_front, read_forward, read_backward, clear };
-constexpr int calls = 10;
-constexpr int numbers = 9;
-constexpr const char *names[calls] = {"setup",    "check",     "length",       "push back",     "push front",
-                                      "pop back", "pop front", "read forward", "read backward", "clear"};
-
-// 01's table: which number each call can give.
-constexpr bool table[calls][numbers] = {
-    //  0      1      2      3      4      5      6      7      8
-    {true, true, true, false, false, false, false, false, false},  // setup
-    {true, true, false, true, false, false, false, false, false},  // check
-    {true, true, false, true, true, false, false, false, false},   // length
-    {true, true, false, true, true, false, true, true, false},     // push back
-    {true, true, false, true, true, false, true, true, false},     // push front
-    {true, true, false, true, true, true, false, false, false},    // pop back
-    {true, true, false, true, true, true, false, false, false},    // pop front
-    {true, true, false, true, true, false, false, false, true},    // read forward
-    {true, true, false, true, true, false, false, false, true},    // read backward
-    {true, true, false, true, true, false, false, false, false},   // clear
-};
-
-// What a call is asked, beside the memory that it is lent.
-struct Ask {
-    Call call = check;
-    std::uint16_t list = 0;
-    std::uint64_t value = 0;
-    std::size_t at = 0;
-    std::uint16_t lists = 0;
-    std::uint16_t shares[8] = {};
-    std::uint16_t limits[8] = {};
-};
-
-// All memory that a call is lent. `word` is where a length, a value or a count is written.
-struct Memory {
-    std::vector<std::uint16_t> links;
-    std::vector<std::uint64_t> values;
-    flailreeve_book book = {};
-    std::vector<std::uint64_t> out;
-    std::uint64_t word = 0;
-};
 
 // A slot that a list holds.
 struct Element {
@@ -68,33 +27,6 @@ struct Queues {
     std::vector<std::uint16_t> limit;
     std::deque<std::uint16_t> free;
 };
-
-// Do L, the shares and the limits keep the rules of the book in a pool of n slots? `share_of` and `limit_of` are eight each.
-inline bool rules(std::size_t n, unsigned lists, const std::uint16_t *share_of, const std::uint16_t *limit_of)
-{
-    unsigned long sum = 0;
-    bool kept = 1 <= lists && lists <= 8;
-    for (unsigned k = 0; kept && k < 8; k++) {
-        if (k < lists)
-            kept = share_of[k] <= limit_of[k] && limit_of[k] + 1ul <= n;
-        else
-            kept = share_of[k] == 0 && limit_of[k] == 0;
-        sum += share_of[k];
-    }
-    return kept && sum + 1 <= n;
-}
-
-inline bool rules(std::size_t n, const flailreeve_book &book)
-{
-    std::uint16_t share_of[8], limit_of[8];
-    for (unsigned k = 0; k < 8; k++) {
-        share_of[k] = book.list[k].share;
-        limit_of[k] = book.list[k].limit;
-        if (k >= book.lists && (book.list[k].head != 0 || book.list[k].tail != 0))
-            return false;
-    }
-    return rules(n, book.lists, share_of, limit_of);
-}
 
 // What a list lacks of its share.
 inline std::size_t lack(const Queues &q, std::size_t k)
@@ -330,7 +262,16 @@ inline std::uint16_t on_queues(const Ask &ask, Queues &q, Memory &m)
     }
 }
 
-// Any call on any memory: the number, and in m what the memory holds afterwards.
+// The first rule that is broken, and none exactly where 01 calls the pool sound with these sequences.
+inline Broken judge(const Memory &m, const Queues &q)
+{
+    Broken rule = first_broken(m);
+    if ((rule.number == 0) != fits(m, q))
+        fail("the model's rules give %u for a pool of %zu slots, and its definition of sound says otherwise", rule.number, q.n);
+    return rule;
+}
+
+// Any call on any memory: the number, and in m what the memory holds afterwards. Every call but setup writes the place.
 inline std::uint16_t answer(const Ask &ask, Memory &m)
 {
     Queues q;
@@ -340,11 +281,14 @@ inline std::uint16_t answer(const Ask &ask, Memory &m)
     if (ask.call == setup) {
         number = set_up(ask, m, q);
     } else {
+        m.place = {0, 0};
         if (!sizes(m))
             return 1;
         q = guess(m);
-        if (!fits(m, q))
-            return 3;
+        Broken rule = judge(m, q);
+        m.place = rule.place;
+        if (rule.number != 0)
+            return rule.number;
         number = on_queues(ask, q, m);
     }
     if (number == 0)

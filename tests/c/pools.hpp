@@ -32,7 +32,7 @@ private:
     {
         model::Memory before = m;
         std::uint16_t got = model::answer(ask, m);
-        ground.place = static_cast<Place>(made % 3);
+        ground.spot = static_cast<Spot>(made % 3);
         ground.run(ask, before);
         if (got != number)
             fail("the model gives %u for %s, document 01 says %u", got, model::names[ask.call], number);
@@ -69,6 +69,12 @@ private:
     {
         if (got != want)
             fail("a word of the model's book is %u, document 01 says %u", got, want);
+    }
+
+    void place_is(std::uint16_t list, std::uint16_t position)
+    {
+        if (m.place.list != list || m.place.position != position)
+            fail("the model's place is %u, %u, document 02 says %u, %u", m.place.list, m.place.position, list, position);
     }
 
     // P1 to P7, and P10 after P1.
@@ -120,7 +126,8 @@ private:
         m.book.free_head = 2;
         on(0, model::check, 0);
         m.values[5] = 1;
-        on(3, model::check, 0);
+        on(14, model::check, 0);
+        place_is(0, 5);
     }
 
     // P9: N-1 visits that end at the tail, and slot 3 belongs to nobody.
@@ -131,7 +138,8 @@ private:
         m.values = {0, 0, 0, 0};
         m.book.lists = 1;
         m.book.list[0] = {1, 1, 0, 3};
-        on(3, model::check, 0);
+        on(11, model::check, 0);
+        place_is(0, 2);
     }
 
     void setup_sizes()

@@ -19,9 +19,9 @@ struct Registers {
 };
 static_assert(sizeof(Registers) == 328, "call_on_stack writes so many bytes");
 
-// Calls fn(argument[0], .., argument[9]) with the stack pointer at top, writes down the registers, and comes back. Four arguments
-// lie on that stack, as the calling convention of x86-64 has it; the rest are in registers. fn may take fewer than ten; it does
-// not look at the others. The registers that fn has to keep are cleared before, since it saves them on its stack, and a caller
+// Calls fn(argument[0], .., argument[11]) with the stack pointer at top, writes down the registers, and comes back. Six arguments
+// lie on that stack, as the calling convention of x86-64 has it; the rest are in registers. fn may take fewer than twelve, which are
+// one more than any call has, so that the stack stays aligned; it does not look at the others. The registers that fn has to keep are cleared before, since it saves them on its stack, and a caller
 // may have had the block in one. The others are cleared too, so that what is found there afterwards fn has left.
 extern "C" std::uint16_t call_on_stack(void *top, const void *fn, const std::uint64_t *argument, Registers *after);
 __asm__(
@@ -48,6 +48,8 @@ __asm__(
     "    mov %rdi, %rsp\n"
     "    mov %rsi, %r11\n"
     "    mov %rdx, %rax\n"
+    "    push 88(%rax)\n"
+    "    push 80(%rax)\n"
     "    push 72(%rax)\n"
     "    push 64(%rax)\n"
     "    push 56(%rax)\n"
@@ -103,18 +105,21 @@ inline unsigned copies_in(const void *from, std::size_t many, std::uint64_t bloc
 
 class Stack {
 public:
-    static constexpr std::size_t arguments = 32;  // bytes above the call: those four
+    static constexpr std::size_t arguments = 48;  // bytes above the call: those six
 
     void paint(unsigned char with)
     {
         color = with;
         std::memset(bytes, color, sizeof bytes);
+        std::memset(painted, color, sizeof painted);
     }
 
-    std::uint16_t call(const void *fn, const std::uint64_t (&argument)[10], Registers &after)
+    std::uint16_t call(const void *fn, const std::uint64_t (&argument)[12], Registers &after)
     {
         std::uint16_t number = call_on_stack(bytes + sizeof bytes, fn, argument, &after);
         lowest = 0;
+        while (lowest + sizeof painted <= sizeof bytes - arguments && std::memcmp(bytes + lowest, painted, sizeof painted) == 0)
+            lowest += sizeof painted;
         while (lowest < sizeof bytes - arguments && bytes[lowest] == color)
             lowest++;
         return number;
@@ -131,6 +136,7 @@ public:
 
 private:
     unsigned char color = 0;
+    unsigned char painted[64] = {};
     std::size_t lowest = 0;
     alignas(16) unsigned char bytes[32768];
 };
@@ -157,8 +163,9 @@ struct Painted {
             pointer(flailreeve_push_back),    pointer(flailreeve_push_front),    pointer(flailreeve_pop_back),
             pointer(flailreeve_pop_front),    pointer(flailreeve_read_forward),  pointer(flailreeve_read_backward),
             pointer(flailreeve_clear)};
-        std::uint64_t a[10] = {address(m.links.data()), m.links.size(), address(m.values.data()), m.values.size(),
-                               address(&m.book), ask.list, 0, 0, 0, 0};
+        std::uint64_t a[12] = {address(m.links.data()), m.links.size(), address(m.values.data()), m.values.size(),
+                               address(&m.book), ask.list, 0, 0, 0, 0, 0, 0};
+        m.place = {0xa5a5, 0xa5a5};
         switch (ask.call) {
         case model::setup:
             a[4] = ask.lists;
@@ -166,16 +173,22 @@ struct Painted {
             a[6] = address(ask.limits);
             a[7] = address(&m.book);
             break;
+        case model::check:
+            a[5] = address(&m.place);
+            break;
         case model::length:
             a[6] = address(&small);
+            a[7] = address(&m.place);
             break;
         case model::push_back:
         case model::push_front:
             a[6] = ask.value;
+            a[7] = address(&m.place);
             break;
         case model::pop_back:
         case model::pop_front:
             a[6] = address(&value);
+            a[7] = address(&m.place);
             break;
         case model::read_forward:
         case model::read_backward:
@@ -183,8 +196,10 @@ struct Painted {
             a[7] = m.out.size();
             a[8] = ask.at;
             a[9] = address(&small);
+            a[10] = address(&m.place);
             break;
         default:
+            a[6] = address(&m.place);
             break;
         }
         return stack.call(functions[ask.call], a, registers);

@@ -2,7 +2,7 @@
 //
 // Each way to put the slots 1 to N-1 in order and cut them into L lists and the free slots is written down as cells. These
 // are all the sound pools there are; nothing is walked. Then every choice of links below 8, heads, tails and free head is
-// handed to the check.
+// handed to the check. Which rule is broken, and where, the model says of each.
 #pragma once
 
 #include <algorithm>
@@ -13,9 +13,10 @@
 
 class Tiny {
 public:
-    unsigned long pools = 0, sound_pools = 0, by_model = 0;
+    unsigned long pools = 0, sound_pools = 0, by_definition = 0;
 
-    // All pools of n slots and these lists; shares and limits are one for each list. `every` n-th pool goes to the model too.
+    // All pools of n slots and these lists; shares and limits are one for each list. `every` n-th pool is held against the model's
+    // definition of sound too.
     void all(std::size_t slots, const std::vector<std::uint16_t> &shares, const std::vector<std::uint16_t> &limits,
              unsigned long every)
     {
@@ -23,14 +24,46 @@ public:
         share = shares;
         limit = limits;
         list_sound_pools();
+        m.links.resize(n);
+        m.values.resize(n);
+        // Which slots hold a value that is not 0. In pools of four slots not every choice is tried for each share and limit.
         const unsigned all_but_null = (1u << n) - 2;
+        bool full = share.size() == 1 && (n < 4 || (share[0] == 0 && limit[0] == 3));
         for (unsigned mask = 0; mask < 1u << n; mask++)
-            if (share.size() == 1 || mask == 0 || mask == all_but_null)
+            if (full || mask == 0 || mask == all_but_null || (n == 4 && share.size() == 1 && mask == 4 + 8))
                 all_cells(mask, 0, every);
         if (n < 4)
             all_cells(0, 1, every);
         for (const model::Queues &q : shapes)
             call_everything(q);
+    }
+
+    // All books of n slots and up to three lists whose words are at most n, and some that are not so; over some pools that are sound
+    // but for the book, and some that are not, with slot 0 as it should be and not.
+    void books(std::size_t slots)
+    {
+        n = slots;
+        m.links.assign(n, 0);
+        m.values.assign(n, 0);
+        for (unsigned cells = 0; cells < 12; cells++)
+            for (std::uint16_t lists : {0, 1, 2, 3, 8, 9, 256, 257, 65535})
+                for (unsigned unused = 0; unused <= 24; unused += lists < 8 ? 1 : 25)
+                    all_rules(cells, lists, unused);
+    }
+
+    void say() const
+    {
+        std::printf("  %lu pools through the check, %lu of them sound, %lu of them by the definition of sound too\n", pools, sound_pools,
+                    by_definition);
+        for (std::size_t slots = 2; slots <= 4; slots++) {
+            std::printf("  of %zu slots:", slots);
+            for (int number = model::first_rule; number < model::numbers; number++) {
+                std::printf("%s %d %lu times", number == model::first_rule ? "" : ",", number, times[slots][number]);
+                if (times[slots][number] == 0)
+                    fail("%d was never given for a pool of %zu slots", number, slots);
+            }
+            std::printf("\n");
+        }
     }
 
 private:
@@ -40,6 +73,7 @@ private:
     std::unordered_map<std::uint64_t, unsigned> free_of;  // the cells of each sound pool, and which of its slots are free
     model::Memory m;
     Ground ground;
+    unsigned long times[5][model::numbers] = {};  // how often each number was given, by the number of slots
 
     // Links and book in one number: 3 bits are enough for each.
     std::uint64_t key(const std::uint16_t *links, const flailreeve_book &book) const
@@ -101,6 +135,34 @@ private:
         shapes.push_back(q);
     }
 
+    // Every share and limit up to n of lists 0 and 1. `cells` says what the pool is like: from 4 on slot 1 is list 0's and from 8 on
+    // list 1's, else all are free; bit 0 spoils slot 0's link and bit 1 its value. `unused` says which word of entries 2 to 7 is 1.
+    void all_rules(unsigned cells, std::uint16_t lists, unsigned unused)
+    {
+        std::memset(&small, 0xd6, sizeof small);
+        small.book = {};
+        small.book.lists = lists;
+        for (std::size_t slot = 0; slot < n; slot++) {
+            small.values[slot] = slot == 0 ? cells >> 1 & 1 : 0;
+            small.links[slot] = static_cast<std::uint16_t>(slot == 0 ? cells & 1 : slot + 1 < n ? slot + 1 : 0);
+        }
+        small.book.free_head = 1;
+        if (cells >= 4) {
+            flailreeve_list &holder = small.book.list[cells >= 8];
+            small.book.free_head = small.links[1];
+            holder.head = holder.tail = 1;
+            small.links[1] = 0;
+        }
+        if (unused > 0)
+            reinterpret_cast<std::uint16_t *>(&small.book)[1 + 4 * 2 + unused - 1] = 1;
+        flailreeve_list &one = small.book.list[0], &two = small.book.list[1];
+        for (one.share = 0; one.share <= n; one.share++)
+            for (one.limit = 0; one.limit <= n; one.limit++)
+                for (two.share = 0; two.share <= n; two.share++)
+                    for (two.limit = 0; two.limit <= n; two.limit++)
+                        check(3);
+    }
+
     // What the check is lent, with guard words between the parts.
     struct Small {
         std::uint64_t guard0;
@@ -110,6 +172,8 @@ private:
         std::uint64_t guard2;
         flailreeve_book book;
         std::uint16_t guard3[2];
+        flailreeve_place place;
+        std::uint16_t guard4[2];
     };
     Small small = {};
 
@@ -154,27 +218,41 @@ private:
         std::uint64_t cells = key(small.links, small.book);
         auto found = free_of.find(cells);
         bool sound = found != free_of.end() && (mask & (found->second | 1u)) == 0;
-        Small before = small;
-        std::uint16_t got = flailreeve_check(small.links, n, small.values, n, &small.book);
-        made++;
-        pools++;
+        model::Broken rule = check(every);
         sound_pools += sound;
-        reached[model::check][got < model::numbers ? got : 0]++;
-        if (got != (sound ? 0 : 3))
-            fail("check gave %u for %s pool of %zu slots", got, sound ? "a sound" : "an unsound", n);
-        if (std::memcmp(&before, &small, sizeof small) != 0)
-            fail("check changed a pool of %zu slots, its book or a guard word", n);
-        if (pools % every == 0) {
-            by_model++;
-            m.links.assign(small.links, small.links + n);
-            m.values.assign(small.values, small.values + n);
-            m.book = small.book;
-            if (model::sound(m) != sound)
-                fail("the model's own definition is wrong about a pool of %zu slots", n);
-        }
+        if ((rule.number == 0) != sound)
+            fail("the model gives %u for %s pool of %zu slots", rule.number, sound ? "a sound" : "an unsound", n);
     }
 
-    // Every call on a sound pool, with every list number up to one too many and each place of a buffer up to two too many.
+    // Hands the pool to the check and holds the number and the place against the model's. `every` n-th is held against the model's
+    // definition of sound too.
+    model::Broken check(unsigned long every)
+    {
+        std::copy(small.links, small.links + n, m.links.begin());
+        std::copy(small.values, small.values + n, m.values.begin());
+        m.book = small.book;
+        model::Broken rule = pools % every == 0 ? model::judge(m, model::guess(m)) : model::first_broken(m);
+        by_definition += pools % every == 0;
+        pools++;
+        small.place = {static_cast<std::uint16_t>(pools | 0x8000), static_cast<std::uint16_t>(~pools | 0x8000)};
+        Small after = small;
+        after.place = rule.place;
+        std::uint16_t got = flailreeve_check(small.links, n, small.values, n, &small.book, &small.place);
+        made++;
+        places_compared++;
+        reached[model::check][rule.number]++;
+        times[n][rule.number]++;
+        if (got != rule.number)
+            fail("check gave %u for a pool of %zu slots, the model says %u", got, n, rule.number);
+        if (small.place.list != rule.place.list || small.place.position != rule.place.position)
+            fail("check gave %u at %u, %u for a pool of %zu slots, the model says at %u, %u", got, small.place.list, small.place.position, n,
+                 rule.place.list, rule.place.position);
+        if (std::memcmp(&after, &small, sizeof small) != 0)
+            fail("check changed a pool of %zu slots, its book or a guard word", n);
+        return rule;
+    }
+
+    // Every call on a sound pool, with every list number up to one too many and each cell of a buffer up to two too many.
     void call_everything(model::Queues q)
     {
         for (auto &list : q.list)
@@ -189,7 +267,7 @@ private:
             ask.value = 0xfeedfeedfeedfeedu;
             for (ask.list = 0; ask.list <= share.size(); ask.list++)
                 for (ask.at = 0; ask.at <= (c == model::read_forward || c == model::read_backward ? n + 2 : 0); ask.at++) {
-                    ground.place = static_cast<Place>(ask.at % 3);
+                    ground.spot = static_cast<Spot>(ask.at % 3);
                     ground.run(ask, m);
                 }
         }

@@ -146,7 +146,7 @@ private:
     {
         static const model::Call ends[] = {model::push_back, model::push_front, model::pop_back, model::pop_front};
         const model::Memory start = m;
-        ground.place = static_cast<Place>(rows++ % 3);
+        ground.spot = static_cast<Spot>(rows++ % 3);
         for (; many > 0; many--) {
             model::Ask ask = random_press(dice.one_of(ends));
             if (!done.empty() && dice.one_in(2))

@@ -1,13 +1,12 @@
-// Runs the four lent calls from C on document 01's pools P1 to P7 and P10, on calls that are refused, and on random calls that are undone, and compares every cell and
-// every word of the book.
-#include <stddef.h>
-#include <stdint.h>
+// Runs the four lent calls from C on document 01's pools P1 to P7 and P10, on calls that are refused, on damaged pools, and on random calls that are undone, and compares
+// the number, the list and the position, every cell and every word of the book.
 #include <stdio.h>
 #include <string.h>
 
+#include "damages.h"
+
 struct list { uint16_t head, tail, share, limit; };
 struct book { uint16_t lists; struct list list[8]; uint16_t free_head; };
-struct refusal { uint16_t number; };
 struct value { struct refusal refusal; uint64_t value; };
 
 _Static_assert(sizeof(struct book) == 34 * sizeof(uint16_t), "the book has 34 words and no padding");
@@ -15,6 +14,8 @@ _Static_assert(offsetof(struct book, list) == 2, "the entries follow the number 
 _Static_assert(offsetof(struct book, free_head) == 66, "the free head is the last word");
 _Static_assert(offsetof(struct list, head) == 0 && offsetof(struct list, tail) == 2, "head, tail");
 _Static_assert(offsetof(struct list, share) == 4 && offsetof(struct list, limit) == 6, "share, limit");
+_Static_assert(sizeof(struct refusal) == 6, "a refusal is three words");
+_Static_assert(offsetof(struct refusal, list) == 2 && offsetof(struct refusal, position) == 4, "number, list, position");
 _Static_assert(offsetof(struct value, value) == 8, "the value stands after the refusal");
 
 struct refusal flailreeve_lent_push_back(uint16_t *links, size_t links_len, uint64_t *values, size_t values_len, struct book *book, uint16_t list, uint64_t value);
@@ -94,7 +95,7 @@ static struct memory p1(void)
 
 static struct value run(struct memory *m, size_t values_len, enum call call, uint16_t list, uint64_t value)
 {
-    struct value out = { { 0 }, 0 };
+    struct value out = { { 0xa5a5, 0xa5a5, 0xa5a5 }, 0 };
     calls++;
     switch (call) {
     case PUSH_BACK:
@@ -142,17 +143,29 @@ static int compare(const char *pool, enum call call, const struct memory *is, co
     return bad;
 }
 
-static int answers(const char *pool, enum call call, struct value is, uint16_t number, uint64_t value)
+static int says(const char *pool, enum call call, struct refusal is, struct refusal right)
 {
-    return differs(pool, call, "number", 0, is.refusal.number, number) + differs(pool, call, "given value", 0, is.value, value);
+    return differs(pool, call, "number", 0, is.number, right.number) + differs(pool, call, "list", 0, is.list, right.list) +
+           differs(pool, call, "position", 0, is.position, right.position);
 }
 
-// A call that is refused by the number: value 0, and nothing changes.
-static int refused(const char *pool, struct memory m, size_t values_len, enum call call, uint16_t list, uint16_t number)
+// A number with which no place goes, and the value.
+static int answers(const char *pool, enum call call, struct value is, uint16_t number, uint64_t value)
+{
+    return says(pool, call, is.refusal, (struct refusal){ number, 0, 0 }) + differs(pool, call, "given value", 0, is.value, value);
+}
+
+// A call that is refused: value 0, and nothing changes.
+static int refused_at(const char *pool, struct memory m, size_t values_len, enum call call, uint16_t list, struct refusal right)
 {
     const struct memory was = m;
     const struct value out = run(&m, values_len, call, list, 99);
-    return answers(pool, call, out, number, 0) + compare(pool, call, &m, &was);
+    return says(pool, call, out.refusal, right) + differs(pool, call, "given value", 0, out.value, 0) + compare(pool, call, &m, &was);
+}
+
+static int refused(const char *pool, struct memory m, size_t values_len, enum call call, uint16_t list, uint16_t number)
+{
+    return refused_at(pool, m, values_len, call, list, (struct refusal){ number, 0, 0 });
 }
 
 // Document 01's pools, one after the other. Answers how many words differ, and leaves the memory after the last.
@@ -182,14 +195,33 @@ static int refusals(struct memory m)
     bad += refused("P10, at the front", p1(), N, POP_FRONT, 1, 5);
     struct memory full = p1();
     full.book.list[0].limit = full.book.list[0].share = 0;
-    struct memory unsound = p1();
-    unsound.book.free_head = 2;
     for (int call = PUSH_BACK; call <= POP_FRONT; call++) {
         bad += refused("lengths differ", m, N - 1, (enum call)call, 0, 1);
-        bad += refused("not sound", unsound, N, (enum call)call, 0, 3);
         bad += refused("no such list", m, N, (enum call)call, 2, 4);
         if (call <= PUSH_FRONT)
             bad += refused("limit 0", full, N, (enum call)call, 0, 6);
+    }
+    return bad;
+}
+
+// Each damaged pool, by each call, on both lists and on one that there is not.
+static int damaged(const struct memory *whole)
+{
+    int bad = 0;
+    for (size_t k = 0; k < sizeof damages / sizeof damages[0]; k++) {
+        const struct damage *d = &damages[k];
+        struct memory m = *whole;
+        for (size_t s = 0; s < STORES; s++) {
+            if (d->store[s].cell == LINK)
+                m.links[d->store[s].at] = (uint16_t)d->store[s].to;
+            if (d->store[s].cell == VALUE)
+                m.values[d->store[s].at] = d->store[s].to;
+            if (d->store[s].cell == WORD)
+                memcpy((char *)&m.book + 2 * d->store[s].at, &(uint16_t){ (uint16_t)d->store[s].to }, 2);
+        }
+        for (int call = PUSH_BACK; call <= POP_FRONT; call++)
+            for (uint16_t list = 0; list < 3; list++)
+                bad += refused_at(d->pool, m, N, (enum call)call, list, d->right);
     }
     return bad;
 }
@@ -290,7 +322,7 @@ static int undone(struct pool *p, unsigned deep)
     const uint16_t number = number_of(p, call, list);
     const struct value given = make(p, call, list, value);
     const uint64_t moved = call >= POP_BACK ? given.value : value;
-    int bad = differs("to be undone", call, "number", 0, given.refusal.number, number);
+    int bad = says("to be undone", call, given.refusal, (struct refusal){ number, 0, 0 });
     if (bad == 0 && number == 0) {
         if (deep > 0)
             bad += undone(p, deep - 1);
@@ -310,7 +342,7 @@ static int undo_at_random(void)
             const enum call call = (enum call)(dice(4) == 0 ? dice(4) : dice(2) + (step < 2 * p.m.slots ? 0 : 2));
             const uint16_t list = (uint16_t)dice(p.m.book.lists);
             const uint16_t number = number_of(&p, call, list);
-            bad += differs("at random", call, "number", 0, make(&p, call, list, dice(0)).refusal.number, number);
+            bad += says("at random", call, make(&p, call, list, dice(0)).refusal, (struct refusal){ number, 0, 0 });
             bad += undone(&p, (unsigned)(dice(2) == 0 ? dice(8) : 0));
         }
     }
@@ -328,12 +360,15 @@ int main(void)
     int bad = in_course(&m);
     bad += refusals(m);
     const int told = calls;
+    bad += damaged(&m);
+    const int on_damaged = calls - told;
     bad += undo_at_random();
     if (bad != 0) {
         printf("lent: %d differences in %d calls from C\n", bad, calls);
         return 1;
     }
     printf("lent: %d calls from C over a lent book give document 01's numbers, cells and words\n", told);
+    printf("lent: %d calls on %zu damaged pools give document 02's number, list and position\n", on_damaged, sizeof damages / sizeof damages[0]);
     printf("lent: %lu pushes taken back, %lu of the last free slot, and %lu pops put back, %lu at the limit and %lu with no slot to spare, leave every cell and word as before\n",
            times[PUSHES], times[LAST_SLOT], times[POPS], times[AT_LIMIT], times[NONE_SPARE]);
     return 0;
