@@ -8,6 +8,7 @@ use lib.Dec.{lit<}
 use lib.ListN.{getD, set, replicate}
 use Rattle.books.specs.declared.Entry.{Entry}
 use Rattle.books.specs.Book.{wipeWord}
+use Rattle.books.specs.Place.{noPlace}
 use Rattle.shapes.specs.declared.End.the-variants.{Front, Back}
 use Rattle.shapes.specs.declared.Gathered.{Gathered}
 use Rattle.shapes.specs.Ends.{joined, contents, fromEnd, endSlot}
@@ -17,7 +18,7 @@ use Rattle.shapes.proofs.Numbers.{given-only}
 use Rattle.shapes.specs.Tests.{pushOwnTests, popOwnTests, readOwnTests}
 use Rattle.shapes.specs.Met.{isMetOf}
 use Rattle.shapes.specs.Walk.{unwipedFrom}
-use Rattle.shapes.specs.Faults.{fault, noFault, gatheredNone, gatherOne, gatherFault, lowestUnmet, spareFault, idleFault}
+use Rattle.shapes.specs.Faults.{fault, noFault, placeFor, answering, naming, gatheredNone, gatherOne, gatherFault, lowestUnmet, spareFault, idleFault}
 use Rattle.shapes.specs.Setup.{freshValue, freshEntry, freshShape, SetupRules}
 use Rattle.shapes.specs.Moves.{pushBack, pushFront, popBack, popFront, clear}
 use Rattle.shapes.specs.Ledger.{Ledger, nothingNoted, notedDone}
@@ -97,6 +98,12 @@ unmet-tried = (refl, refl, refl)
 -- what was gathered of two lists: the live slots, what is lacked, and the list over its limit, 2 for none
 abbrev found : ℕ → ℕ → ℕ → Gathered
 found live lacking over = record { fault = noFault; live = live; lacks = lacking; over = over; length = 0 }
+
+-- a fault's place goes with its own number and with no other, and so does the answer; the answer that names it has its rule, its list and its position
+pub fault-places-tried : (placeFor (fault 11 7 4095) 11 ≡ record { list = 7; position = 4095 }) × (placeFor (fault 11 7 4095) 12 ≡ noPlace)
+    × (answering (fault 15 2 0) 15 ≡ record { number = 15; list = 2; position = 0 }) × (answering (fault 15 2 0) 4 ≡ record { number = 4; list = 0; position = 0 })
+    × (naming (fault 14 0 9) ≡ record { number = 14; list = 0; position = 9 })
+fault-places-tried = (refl, refl, refl, refl, refl)
 
 -- four slots, of which slot 1 alone was met: each rule in its order, where the later ones are broken too, and at last none
 pub faults-tried : (idleFault (0 ∷ three 1 0 0) 4 2 (found 1 9 1) false 1 3 ≡ fault 12 0 1) × (idleFault (0 ∷ three 1 0 0) 4 2 (found 1 9 1) true 1 3 ≡ fault 13 0 2)
