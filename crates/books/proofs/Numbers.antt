@@ -23,13 +23,13 @@ eight-lists = refl
 pub sizes-tried : (sizeFits 1 ≡ false) × (sizeFits 2 ≡ true) × (sizeFits 4096 ≡ true) × (sizeFits 4097 ≡ false)
 sizes-tried = (refl, refl, refl, refl)
 
-pub zero-words : wordsOf zeroBook ≡ replicate 34 0
+pub zero-words : wordsOf zeroBook ≡ replicate 43 0
 zero-words = refl
 
 -- the words stand in the order of the records' fields
-pub words-order : (lists free : ℕ) (e : Entry) (es : List Entry)
-    → (wordsOf (record { lists = lists; entries = []; free = record { head = free } }) ≡ lists ∷ free ∷ []) × (entryWords (e ∷ es) ≡ e .head ∷ e .tail ∷ e .share ∷ e .limit ∷ entryWords es)
-words-order lists free e es = (refl, refl)
+pub words-order : (lists free count : ℕ) (e : Entry) (es : List Entry)
+    → (wordsOf (record { lists = lists; entries = []; free = record { head = free; count = count } }) ≡ lists ∷ free ∷ count ∷ []) × (entryWords (e ∷ es) ≡ e .head ∷ e .tail ∷ e .share ∷ e .limit ∷ e .length ∷ entryWords es)
+words-order lists free count e es = (refl, refl)
 
 -- an outcome is the answer and the two slices, and nothing is lost
 pub outcome-plain : {A : Type 0} (answer : A) (links values : List ℕ)

@@ -79,10 +79,11 @@ zero-iff e = (to, λ q. ap isZero q)
   where
     to : isZero e ≡ true → e ≡ zeroEntry
     to h =
-        let p = and-both (eqb (e .head) 0) (eqb (e .tail) 0 && (eqb (e .share) 0 && eqb (e .limit) 0)) h in
-        let q = and-both (eqb (e .tail) 0) (eqb (e .share) 0 && eqb (e .limit) 0) (p .1) in
-        let r = and-both (eqb (e .share) 0) (eqb (e .limit) 0) (q .1) in
-        λ i. record { head = eqb-true (e .head) 0 (p .0) i; tail = eqb-true (e .tail) 0 (q .0) i; share = eqb-true (e .share) 0 (r .0) i; limit = eqb-true (e .limit) 0 (r .1) i }
+        let p = and-both (eqb (e .head) 0) (eqb (e .tail) 0 && (eqb (e .share) 0 && (eqb (e .limit) 0 && eqb (e .length) 0))) h in
+        let q = and-both (eqb (e .tail) 0) (eqb (e .share) 0 && (eqb (e .limit) 0 && eqb (e .length) 0)) (p .1) in
+        let r = and-both (eqb (e .share) 0) (eqb (e .limit) 0 && eqb (e .length) 0) (q .1) in
+        let t = and-both (eqb (e .limit) 0) (eqb (e .length) 0) (r .1) in
+        λ i. record { head = eqb-true (e .head) 0 (p .0) i; tail = eqb-true (e .tail) 0 (q .0) i; share = eqb-true (e .share) 0 (r .0) i; limit = eqb-true (e .limit) 0 (t .0) i; length = eqb-true (e .length) 0 (t .1) i }
 
 all-zero : (es : List Entry) → allZero es ≡ true → (l : ℕ) → entryAt es l ≡ zeroEntry
 unfolding allZero

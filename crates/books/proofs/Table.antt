@@ -47,10 +47,10 @@ row-below n [] i h = refl
 row-below n (r ∷ rs) zero h = and-both (all-below n r) (rows-below n rs) h .0
 row-below n (r ∷ rs) (suc i) h = row-below n rs i (and-both (all-below n r) (rows-below n rs) h .1)
 
--- no call gives 16 or more
-pub no-number : (call number : ℕ) → 16 ≤ number → mayGive call number ≡ false
+-- no call gives 17 or more
+pub no-number : (call number : ℕ) → 17 ≤ number → mayGive call number ≡ false
 unfolding mayGive
-no-number call number p = not-among 16 (getD rows call []) number (row-below 16 rows call refl) p
+no-number call number p = not-among 17 (getD rows call []) number (row-below 17 rows call refl) p
 
 -- there is no call number 10 or more
 pub no-call : (call number : ℕ) → 10 ≤ call → mayGive call number ≡ false

@@ -41,10 +41,8 @@ or-zero a b = go (ℕ-discrete a 0)
     go (no d) = rw (ne-eqb a 0 d, ne-eqb (bitOr a b) 0 (λ h. d (or-none a b h .0)))
 
 -- tests taken one after the other, from the left or from the right
-pub and-in-turn : (a b c d : Bool) → ((a && b) && c) && d ≡ a && (b && (c && d))
-and-in-turn true b c d = go b
-  where
-    go : (b : Bool) → (b && c) && d ≡ b && (c && d)
-    go true = refl
-    go false = refl
-and-in-turn false b c d = refl
+pub and-in-turn : (a b c d e : Bool) → (((a && b) && c) && d) && e ≡ a && (b && (c && (d && e)))
+and-in-turn true true true d e = refl
+and-in-turn true true false d e = refl
+and-in-turn true false c d e = refl
+and-in-turn false b c d e = refl

@@ -27,14 +27,14 @@ mostLists = 8
 
 -- the entry of no list
 abbrev pub zeroEntry : Entry
-zeroEntry = record { head = 0; tail = 0; share = 0; limit = 0 }
+zeroEntry = record { head = 0; tail = 0; share = 0; limit = 0; length = 0 }
 
 -- list l's entry
 abbrev pub entryAt : List Entry → ℕ → Entry
 entryAt es l = getD es l zeroEntry
 
 abbrev pub zeroBook : Book
-zeroBook = record { lists = 0; entries = replicate mostLists zeroEntry; free = record { head = 0 } }
+zeroBook = record { lists = 0; entries = replicate mostLists zeroEntry; free = record { head = 0; count = 0 } }
 
 -- a book with room for any number of lists: how many, how many lists there are, an entry for each, and the idle chain
 pub record AnyBook : Type 0 where
@@ -54,7 +54,7 @@ bookOf b = record { lists = b .lists; entries = b .entries; free = b .free }
 -- the book as the words of its record, in their order
 abbrev pub entryWords : List Entry → List ℕ
 entryWords [] = []
-entryWords (e ∷ es) = e .head ∷ e .tail ∷ e .share ∷ e .limit ∷ entryWords es
+entryWords (e ∷ es) = e .head ∷ e .tail ∷ e .share ∷ e .limit ∷ e .length ∷ entryWords es
 
 abbrev pub wordsOf : Book → List ℕ
-wordsOf b = b .lists ∷ entryWords (b .entries) ++ b .free .head ∷ []
+wordsOf b = b .lists ∷ entryWords (b .entries) ++ b .free .head ∷ b .free .count ∷ []

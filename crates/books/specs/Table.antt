@@ -1,16 +1,16 @@
--- 01's table of calls and numbers, with 02 b)'s numbers: which numbers each call can give. It has ten rows, and columns for 0 to 15; that of 3 is empty.
+-- 01's table of calls and numbers, with 02 b)'s numbers and 02 c)'s: which numbers each call can give. It has ten rows, and columns for 0 to 16; that of 3 is empty.
 use mathlib.Core.Bool.{Bool, true, false, cond}
 use mathlib.Core.List.{List, [], _∷_, _++_}
 use Prim.Native.Nat.{ℕ}
 use lib.Dec.{eqb}
 use lib.ListN.{getD}
 
--- the rules that the check tells apart, in the order in which they are tested: 9 is L, shares and limits; 10 slot 0; 11 a live chain; 12 the free chain; 13 a slot in no chain; 14 a free slot with a value; 15 limits and shares
+-- the rules that the check tells apart, in the order in which they are tested: 9 is L, shares and limits; 10 slot 0; 11 a live chain; 12 the free chain; 13 a slot in no chain; 14 a free slot with a value; 15 limits and shares; 16 the stored counts
 abbrev pub faultRules : List ℕ
-faultRules = 9 ∷ 10 ∷ 11 ∷ 12 ∷ 13 ∷ 14 ∷ 15 ∷ []
+faultRules = 9 ∷ 10 ∷ 11 ∷ 12 ∷ 13 ∷ 14 ∷ 15 ∷ 16 ∷ []
 
 -- 01: "setup: 0, 1, 2; check: 0, 1, 3; length and clear: 0, 1, 3, 4; pushes: 0, 1, 3, 4, 6, 7; pops: 0, 1, 3, 4, 5; reads: 0, 1, 3, 4, 8"
--- with 02 b)'s numbers where 3 was
+-- with 02 b)'s numbers, and 02 c)'s, where 3 was
 abbrev pub rows : List (List ℕ)
 rows =
     (0 ∷ 1 ∷ 2 ∷ [])

@@ -14,7 +14,7 @@ unfoldable pub isFair : ℕ → Entry → Bool
 isFair size e = leb (e .share) (e .limit) && ltb (e .limit) size
 
 unfoldable pub isZero : Entry → Bool
-isZero e = eqb (e .head) 0 && (eqb (e .tail) 0 && (eqb (e .share) 0 && eqb (e .limit) 0))
+isZero e = eqb (e .head) 0 && (eqb (e .tail) 0 && (eqb (e .share) 0 && (eqb (e .limit) 0 && eqb (e .length) 0)))
 
 -- each entry is fair, and `sum` and their shares together are below the size
 unfoldable pub gather : ℕ → List Entry → ℕ → Bool

@@ -46,9 +46,9 @@ abbrev pub sameAnswer : Bool → Bool → Bool
 sameAnswer true answer = answer
 sameAnswer false answer = not answer
 
--- a list's head, tail, share and limit
-abbrev pub entry : ℕ → ℕ → ℕ → ℕ → Entry
-entry head tail share limit = record { head = head; tail = tail; share = share; limit = limit }
+-- a list's head, tail, share, limit and length
+abbrev pub entry : ℕ → ℕ → ℕ → ℕ → ℕ → Entry
+entry head tail share limit length = record { head = head; tail = tail; share = share; limit = limit; length = length }
 
 abbrev pub none : ℕ → List Entry
 none n = replicate n zeroEntry
@@ -88,43 +88,43 @@ ruledTried =
     ∷ ruled 6 1 1 (none 1) true
     ∷ ruled 6 1 2 (none 2) false
     -- "share ≤ limit ≤ N-1": at the limit, one over it, at N-1, at N; in the least pool and in the largest
-    ∷ ruled 6 8 1 (entry 0 0 3 3 ∷ none 7) true
-    ∷ ruled 6 8 1 (entry 0 0 4 3 ∷ none 7) false
-    ∷ ruled 6 8 1 (entry 0 0 5 5 ∷ none 7) true
-    ∷ ruled 6 8 1 (entry 0 0 0 6 ∷ none 7) false
-    ∷ ruled 2 8 1 (entry 0 0 1 1 ∷ none 7) true
-    ∷ ruled 2 8 1 (entry 0 0 0 2 ∷ none 7) false
-    ∷ ruled 4096 8 1 (entry 0 0 4095 4095 ∷ none 7) true
-    ∷ ruled 4096 8 1 (entry 0 0 0 4096 ∷ none 7) false
-    ∷ ruled 4096 8 1 (entry 0 0 65535 65535 ∷ none 7) false
+    ∷ ruled 6 8 1 (entry 0 0 3 3 0 ∷ none 7) true
+    ∷ ruled 6 8 1 (entry 0 0 4 3 0 ∷ none 7) false
+    ∷ ruled 6 8 1 (entry 0 0 5 5 0 ∷ none 7) true
+    ∷ ruled 6 8 1 (entry 0 0 0 6 0 ∷ none 7) false
+    ∷ ruled 2 8 1 (entry 0 0 1 1 0 ∷ none 7) true
+    ∷ ruled 2 8 1 (entry 0 0 0 2 0 ∷ none 7) false
+    ∷ ruled 4096 8 1 (entry 0 0 4095 4095 0 ∷ none 7) true
+    ∷ ruled 4096 8 1 (entry 0 0 0 4096 0 ∷ none 7) false
+    ∷ ruled 4096 8 1 (entry 0 0 65535 65535 0 ∷ none 7) false
     -- "the shares add up to at most N-1": 2 and 3 in six slots, 3 and 3; the eight of a book
-    ∷ ruled 6 8 2 (entry 0 0 2 5 ∷ entry 0 0 3 3 ∷ none 6) true
-    ∷ ruled 6 8 2 (entry 0 0 3 5 ∷ entry 0 0 3 3 ∷ none 6) false
-    ∷ ruled 9 8 8 (replicate 8 (entry 0 0 1 8)) true
-    ∷ ruled 8 8 8 (replicate 8 (entry 0 0 1 7)) false
-    ∷ ruled 4096 8 8 (replicate 8 (entry 0 0 511 4095)) true
-    ∷ ruled 4096 8 8 (replicate 8 (entry 0 0 512 4095)) false
-    ∷ ruled 4096 8 8 (replicate 7 (entry 0 0 512 4095) ++ entry 0 0 511 4095 ∷ []) true
+    ∷ ruled 6 8 2 (entry 0 0 2 5 0 ∷ entry 0 0 3 3 0 ∷ none 6) true
+    ∷ ruled 6 8 2 (entry 0 0 3 5 0 ∷ entry 0 0 3 3 0 ∷ none 6) false
+    ∷ ruled 9 8 8 (replicate 8 (entry 0 0 1 8 0)) true
+    ∷ ruled 8 8 8 (replicate 8 (entry 0 0 1 7 0)) false
+    ∷ ruled 4096 8 8 (replicate 8 (entry 0 0 511 4095 0)) true
+    ∷ ruled 4096 8 8 (replicate 8 (entry 0 0 512 4095 0)) false
+    ∷ ruled 4096 8 8 (replicate 7 (entry 0 0 512 4095 0) ++ entry 0 0 511 4095 0 ∷ []) true
     -- shares that would be a small number again in a word of 12, 13 or 14 bits
-    ∷ ruled 4096 8 2 (replicate 2 (entry 0 0 4095 4095) ++ none 6) false
-    ∷ ruled 4096 8 3 (replicate 3 (entry 0 0 4095 4095) ++ none 5) false
-    ∷ ruled 4096 8 5 (replicate 5 (entry 0 0 4095 4095) ++ none 3) false
-    -- a list's ends are no matter of these rules
-    ∷ ruled 6 8 1 (entry 65535 65535 0 5 ∷ none 7) true
+    ∷ ruled 4096 8 2 (replicate 2 (entry 0 0 4095 4095 0) ++ none 6) false
+    ∷ ruled 4096 8 3 (replicate 3 (entry 0 0 4095 4095 0) ++ none 5) false
+    ∷ ruled 4096 8 5 (replicate 5 (entry 0 0 4095 4095 0) ++ none 3) false
+    -- a list's ends and its length are no matter of these rules
+    ∷ ruled 6 8 1 (entry 65535 65535 0 5 65535 ∷ none 7) true
     -- every list: its share and its limit
-    ∷ joinedRuled (map (λ l. onlyAt 6 8 l (entry 7 7 5 5) true ∷ onlyAt 6 8 l (entry 7 7 2 1) false ∷ onlyAt 6 8 l (entry 7 7 0 6) false ∷ []) (numbersFrom 0 8))
+    ∷ joinedRuled (map (λ l. onlyAt 6 8 l (entry 7 7 5 5 0) true ∷ onlyAt 6 8 l (entry 7 7 2 1 0) false ∷ onlyAt 6 8 l (entry 7 7 0 6 0) false ∷ []) (numbersFrom 0 8))
     -- "entries from L on are all 0": each word of the entry at L, and of those behind it
-    ++ joinedRuled (map (λ l. onlyAt 6 l l (entry 1 0 0 0) false ∷ onlyAt 6 l l (entry 0 1 0 0) false ∷ onlyAt 6 l l (entry 0 0 1 0) false ∷ onlyAt 6 l l (entry 0 0 0 1) false ∷ []) (numbersFrom 1 7))
-    ++ joinedRuled (map (λ l. onlyAt 6 1 l (entry 1 0 0 0) false ∷ onlyAt 6 1 l (entry 0 1 0 0) false ∷ onlyAt 6 1 l (entry 0 0 1 1) false ∷ onlyAt 6 1 l (entry 0 0 0 1) false ∷ []) (numbersFrom 1 7))
+    ++ joinedRuled (map (λ l. onlyAt 6 l l (entry 1 0 0 0 0) false ∷ onlyAt 6 l l (entry 0 1 0 0 0) false ∷ onlyAt 6 l l (entry 0 0 1 0 0) false ∷ onlyAt 6 l l (entry 0 0 0 1 0) false ∷ onlyAt 6 l l (entry 0 0 0 0 1) false ∷ []) (numbersFrom 1 7))
+    ++ joinedRuled (map (λ l. onlyAt 6 1 l (entry 1 0 0 0 0) false ∷ onlyAt 6 1 l (entry 0 1 0 0 0) false ∷ onlyAt 6 1 l (entry 0 0 1 1 0) false ∷ onlyAt 6 1 l (entry 0 0 0 1 0) false ∷ onlyAt 6 1 l (entry 0 0 0 0 1) false ∷ []) (numbersFrom 1 7))
     -- bit by bit: L; a share over the limit; a limit over N-1; each word of an entry behind the lists
     ++ map (λ b. ruled 6 8 (8 + b) (none 8) false) wordBits
-    ++ map (λ b. onlyAt 6 8 7 (entry 0 0 b 0) false) wordBits
-    ++ map (λ b. onlyAt 6 8 7 (entry 0 0 0 (5 + b)) false) wordBits
-    ++ joinedRuled (map (λ b. onlyAt 6 7 7 (entry b 0 0 0) false ∷ onlyAt 6 7 7 (entry 0 b 0 0) false ∷ onlyAt 6 7 7 (entry 0 0 b 0) false ∷ onlyAt 6 7 7 (entry 0 0 0 b) false ∷ []) wordBits)
+    ++ map (λ b. onlyAt 6 8 7 (entry 0 0 b 0 0) false) wordBits
+    ++ map (λ b. onlyAt 6 8 7 (entry 0 0 0 (5 + b) 0) false) wordBits
+    ++ joinedRuled (map (λ b. onlyAt 6 7 7 (entry b 0 0 0 0) false ∷ onlyAt 6 7 7 (entry 0 b 0 0 0) false ∷ onlyAt 6 7 7 (entry 0 0 b 0 0) false ∷ onlyAt 6 7 7 (entry 0 0 0 b 0) false ∷ onlyAt 6 7 7 (entry 0 0 0 0 b) false ∷ []) wordBits)
 
 abbrev pub ruledPass : List Ruled → Bool
 ruledPass [] = true
-ruledPass (r ∷ rs) = sameAnswer (keepsRules (r .size) (record { places = r .places; lists = r .lists; entries = r .entries; free = record { head = 65535 } })) (r .kept) && ruledPass rs
+ruledPass (r ∷ rs) = sameAnswer (keepsRules (r .size) (record { places = r .places; lists = r .lists; entries = r .entries; free = record { head = 65535; count = 65535 } })) (r .kept) && ruledPass rs
 
 -- ---- the sizes
 
@@ -134,10 +134,10 @@ sizesSaid = map sizeFits (0 ∷ 1 ∷ 2 ∷ 3 ∷ 255 ∷ 256 ∷ 2048 ∷ 4095 
 
 -- ---- the words of a book
 
--- a book whose words are the numbers from 1 to 34
+-- a book whose words are the numbers from 1 to 43
 abbrev pub numberedBook : Book
-numberedBook = record { lists = 1; entries = map (λ n. entry (2 + n) (3 + n) (4 + n) (5 + n)) (byFours 8 0); free = record { head = 34 } }
+numberedBook = record { lists = 1; entries = map (λ n. entry (2 + n) (3 + n) (4 + n) (5 + n) (6 + n)) (byFives 8 0); free = record { head = 42; count = 43 } }
   where
-    byFours : ℕ → ℕ → List ℕ
-    byFours zero n = []
-    byFours (suc k) n = n ∷ byFours k (4 + n)
+    byFives : ℕ → ℕ → List ℕ
+    byFives zero n = []
+    byFives (suc k) n = n ∷ byFives k (5 + n)

@@ -3,22 +3,24 @@ ghost use mathlib.Core.Path.{_≡_};
 ghost use Rattle.books.specs.Book.{zeroEntry, zeroBook};
 ghost use Rattle.books.specs.Place.{numbered};
 
-// The idle chain: its first slot, or 0. It is passed whole, so that a new field changes no signature.
+// The idle chain: its first slot, or 0, and how many slots are free. It is passed whole, so that a new field changes no signature.
 #[repr(C)]
 pub struct Free {
     pub head: u16,
+    pub count: u16,
 }
 
-// One list: its ends, and how many slots it may always have and may have at most.
+// One list: its ends, how many slots it may always have and may have at most, and how many it has.
 #[repr(C)]
 pub struct Entry {
     pub head: u16,
     pub tail: u16,
     pub share: u16,
     pub limit: u16,
+    pub length: u16,
 }
 
-// The number that a call answers with, 0 for done, and for 11 to 15 where the first broken rule is broken: the list and the position that the
+// The number that a call answers with, 0 for done, and for 11 to 16 where the first broken rule is broken: the list and the position that the
 // number sets, and else 0.
 #[repr(C)]
 pub struct Refusal {
@@ -34,6 +36,9 @@ pub struct Book {
     pub entries: [Entry; 8],
     pub free: Free,
 }
+
+// The book as words, in the order in which its fields stand: as C has it, and as the check reads it.
+pub type Words = [u16; 43];
 
 // The number of a call, and the book as it leaves it.
 #[repr(C)]
@@ -80,6 +85,7 @@ impl Entry {
             tail: 0,
             share: 0,
             limit: 0,
+            length: 0,
         }
     }
 }
@@ -113,7 +119,7 @@ impl Book {
         Book {
             lists: 0,
             entries: [none; 8],
-            free: Free { head: 0 },
+            free: Free { head: 0, count: 0 },
         }
     }
 }

@@ -10,8 +10,9 @@ use Rattle.xor.specs.Slot.{inPool}
 use Rattle.xor.specs.Slots.{takeOf, releaseOf}
 use Rattle.xor.specs.Steps.{isBeside, pushEmptyOf, pushBesideOf, pushOf, popOf}
 use Rattle.xor.specs.Along.{clearAlong}
+use Rattle.engines.specs.Counted.{countedPop}
 use Rattle.cases.specs.High.{allHigh}
 
 pub high-slots-tried : allHigh ≡ true
-unfolding nearOf withNear inPool takeOf releaseOf isBeside pushEmptyOf pushBesideOf pushOf popOf clearOn clearAlong nothingMet isMetOf markOf unmet walkOn walkable isSlot valuesAlong
+unfolding nearOf withNear inPool takeOf releaseOf isBeside pushEmptyOf pushBesideOf pushOf popOf clearOn clearAlong nothingMet isMetOf markOf unmet walkOn walkable isSlot valuesAlong countedPop
 high-slots-tried = refl

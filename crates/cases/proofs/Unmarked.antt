@@ -4,7 +4,7 @@ use mathlib.Core.Bool.{true}
 use Rattle.books.specs.Tabulate.{tabulate}
 use Rattle.books.specs.Test.{isFair, isZero, gather, allZero, keepsRules}
 use Rattle.shapes.specs.Ends.{nearOf, withNear}
-use Rattle.shapes.specs.Faults.{nothingMet, spareFault, idleFault}
+use Rattle.shapes.specs.Faults.{nothingMet, countFault, spareFault, idleFault}
 use Rattle.shapes.specs.Setup.{freshValue}
 use Rattle.shapes.specs.Met.{isMetOf, markOf, unmet}
 use Rattle.shapes.specs.Walk.{walkOn, walkable}
@@ -16,6 +16,7 @@ use Rattle.xor.specs.Steps.{isBeside, pushEmptyOf, pushBesideOf, pushOf, popOf}
 use Rattle.xor.specs.Engine.{freshLink}
 use Rattle.xor.specs.Slots.{takeOf, releaseOf}
 use Rattle.xor.specs.Slot.{inPool}
+use Rattle.engines.specs.Counted.{countedPush, countedPop}
 use Rattle.cases.specs.Cases.{allPass}
 use Rattle.cases.specs.Unmarked.{starts, startsPass, readings, readingsPass, notMarked, refusedStart}
 
@@ -28,10 +29,10 @@ unfolding tabulate isFair isZero gather allZero keepsRules sizesFit decided fres
 refused-start-zero = refl
 
 pub readings-pass : readingsPass readings ≡ true
-unfolding readCall isSlot valuesAlong isFair isZero gather allZero keepsRules nearOf nothingMet gatherAll spareFault idleFault nullSlotZero poolFound checkFound sizesFit decided isMetOf markOf unmet walkOn walkable idlePath
+unfolding readCall isSlot valuesAlong isFair isZero gather allZero keepsRules nearOf nothingMet gatherAll countFault spareFault idleFault nullSlotZero poolFound checkFound sizesFit decided isMetOf markOf unmet walkOn walkable idlePath
 readings-pass = refl
 
 -- a free slot's value is 0 after a setup, a pop and a clear, whatever bits it had
 pub unmarked-pass : allPass notMarked ≡ true
-unfolding tabulate isFair isZero gather allZero keepsRules nearOf withNear isBeside pushEmptyOf pushBesideOf pushOf popOf nothingMet gatherAll spareFault idleFault nullSlotZero poolFound checkFound sizesFit decided lengthCall readCall pushCall popCall clearCall clearOn freshLink freshValue setupCall isMetOf markOf unmet takeOf releaseOf inPool walkOn walkable idlePath
+unfolding tabulate isFair isZero gather allZero keepsRules nearOf withNear isBeside pushEmptyOf pushBesideOf pushOf popOf nothingMet gatherAll countFault spareFault idleFault nullSlotZero poolFound checkFound sizesFit decided lengthCall readCall pushCall popCall clearCall clearOn freshLink freshValue setupCall isMetOf markOf unmet takeOf releaseOf inPool walkOn walkable idlePath countedPush countedPop
 unmarked-pass = refl

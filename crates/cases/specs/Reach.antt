@@ -26,7 +26,7 @@ uneven = record { links = p3 .links; values = take 5 (p3 .values); book = p3 .bo
 
 -- the pool of P1 after three pushes on list 1, which is at its limit then
 abbrev full : Pool
-full = record { links = 0 ∷ 2 ∷ 2 ∷ 2 ∷ 5 ∷ 0 ∷ []; values = 0 ∷ 11 ∷ 12 ∷ 13 ∷ 0 ∷ 0 ∷ []; book = twoLists 0 0 1 3 4 }
+full = record { links = 0 ∷ 2 ∷ 2 ∷ 2 ∷ 5 ∷ 0 ∷ []; values = 0 ∷ 11 ∷ 12 ∷ 13 ∷ 0 ∷ 0 ∷ []; book = twoLists 0 0 0 1 3 3 4 2 }
 
 abbrev given : Pool → Move → Gives
 given st m = gives (rowOf m) (numberGiven st m)
@@ -35,19 +35,20 @@ given st m = gives (rowOf m) (numberGiven st m)
 abbrev setUpWith : ℕ → ℕ → ℕ → Gives
 setUpWith n m lists = gives 0 (setupOf (replicate n 0) (replicate m 0) lists (2 ∷ 1 ∷ replicate 6 0) (5 ∷ 3 ∷ replicate 6 0) .answer .refusal .number)
 
--- a pool for each of 9 to 15: of two slots, but for P9
+-- a pool for each of 9 to 16: of two slots, but for P9
 abbrev brokenPools : List Pool
 brokenPools =
-    record { links = 0 ∷ 0 ∷ []; values = 0 ∷ 0 ∷ []; book = oneList 2 0 0 1 }
-    ∷ record { links = 1 ∷ 0 ∷ []; values = 0 ∷ 0 ∷ []; book = oneList 1 0 0 1 }
-    ∷ p9
-    ∷ record { links = 0 ∷ 1 ∷ []; values = 0 ∷ 0 ∷ []; book = oneList 1 0 0 1 }
-    ∷ record { links = 0 ∷ 0 ∷ []; values = 0 ∷ 0 ∷ []; book = oneList 1 0 0 0 }
-    ∷ record { links = 0 ∷ 0 ∷ []; values = 0 ∷ 1 ∷ []; book = oneList 1 0 0 1 }
-    ∷ record { links = 0 ∷ 0 ∷ []; values = 0 ∷ 5 ∷ []; book = oneList 0 1 1 0 }
+    record { links = 0 ∷ 0 ∷ []; values = 0 ∷ 0 ∷ []; book = oneList 2 0 0 0 1 1 }
+    ∷ record { links = 1 ∷ 0 ∷ []; values = 0 ∷ 0 ∷ []; book = oneList 1 0 0 0 1 1 }
+    ∷ p9 1 0
+    ∷ record { links = 0 ∷ 1 ∷ []; values = 0 ∷ 0 ∷ []; book = oneList 1 0 0 0 1 1 }
+    ∷ record { links = 0 ∷ 0 ∷ []; values = 0 ∷ 0 ∷ []; book = oneList 1 0 0 0 0 1 }
+    ∷ record { links = 0 ∷ 0 ∷ []; values = 0 ∷ 1 ∷ []; book = oneList 1 0 0 0 1 1 }
+    ∷ record { links = 0 ∷ 0 ∷ []; values = 0 ∷ 5 ∷ []; book = oneList 0 1 1 1 0 0 }
+    ∷ record { links = 0 ∷ 0 ∷ []; values = 0 ∷ 0 ∷ []; book = oneList 1 0 0 0 1 0 }
     ∷ []
 
--- 1, 9 to 15 and 4 of a call on list l: on a pool with a cell missing, on these, and on P3's with a list that there is not
+-- 1, 9 to 16 and 4 of a call on list l: on a pool with a cell missing, on these, and on P3's with a list that there is not
 abbrev refusals : (ℕ → Move) → List Gives
 refusals call = given uneven (call 0) ∷ given p3 (call 2) ∷ map (λ st. given st (call 0)) brokenPools
 
@@ -99,7 +100,7 @@ numbersShown call (suc n) gs = same (mayGive call n) (isShown call n gs) && numb
 
 abbrev pub callsShown : ℕ → List Gives → Bool
 callsShown zero gs = true
-callsShown (suc m) gs = numbersShown m 16 gs && callsShown m gs
+callsShown (suc m) gs = numbersShown m 17 gs && callsShown m gs
 
 -- a trace of two lists, with the shares and limits of 01's pools
 abbrev pub twoListTrace : Pool → Ledger → Type 0

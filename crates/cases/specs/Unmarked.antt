@@ -4,9 +4,8 @@ use mathlib.Core.List.{List, [], _∷_, _++_, map}
 use Prim.Native.Nat.{ℕ}
 use lib.Dec.{eqb}
 use lib.ListN.{set, replicate}
-use Rattle.books.specs.declared.Book.{Book}
 use Rattle.books.specs.Book.{zeroBook}
-use Rattle.books.specs.Tried.{wordBits, valueBits, allBits, numbersFrom, sameNumbers, entry, none}
+use Rattle.books.specs.Tried.{wordBits, valueBits, allBits, numbersFrom, sameNumbers}
 use Rattle.shapes.specs.declared.End.{End}
 use Rattle.shapes.specs.declared.End.the-variants.{Front, Back}
 use Rattle.shapes.specs.Moves.{askLength, pushBack, pushFront, popBack, popFront, readForward, readBackward, clear}
@@ -14,7 +13,7 @@ use Rattle.shapes.specs.Tests.{ReadLeft}
 use Rattle.xor.specs.Ten.{setupOf, readForwardOf, readBackwardOf}
 use Rattle.xor.specs.Moves.{Pool, poolLeft}
 use Rattle.books.specs.Place.{numbered}
-use Rattle.cases.specs.Cases.{Case, with, bySetup, p1, p3, samePool}
+use Rattle.cases.specs.Cases.{Case, with, bySetup, oneList, p1, p3, samePool}
 
 -- ---- setup
 
@@ -117,26 +116,22 @@ readingsPass (r ∷ more) =
 
 -- ---- pushes, pops and clears
 
--- N = 6 and one list with share 0: its limit, head and tail, and the free head
-abbrev oneBook : ℕ → ℕ → ℕ → ℕ → Book
-oneBook limit head tail free = record { lists = 1; entries = entry head tail 0 limit ∷ none 7; free = record { head = free } }
-
--- "Limit 0": every slot is free, and none may be taken
+-- N = 6 and one list. "Limit 0": every slot is free, and none may be taken
 abbrev limitNone : Pool
-limitNone = record { links = six 0 2 3 4 5 0; values = replicate 6 0; book = oneBook 0 0 0 1 }
+limitNone = record { links = six 0 2 3 4 5 0; values = replicate 6 0; book = oneList 0 0 0 0 1 5 }
 
 -- list 0 has slots 1, 2 and 3, which hold a value each; and what is left after a pop at either end, and after a clear
 abbrev held : ℕ → Pool
-held v = record { links = six 0 2 2 2 5 0; values = six 0 v v v 0 0; book = oneBook 5 1 3 4 }
+held v = record { links = six 0 2 2 2 5 0; values = six 0 v v v 0 0; book = oneList 5 1 3 3 4 2 }
 
 abbrev withoutFirst : ℕ → Pool
-withoutFirst v = record { links = six 0 4 3 2 5 0; values = six 0 0 v v 0 0; book = oneBook 5 2 3 1 }
+withoutFirst v = record { links = six 0 4 3 2 5 0; values = six 0 0 v v 0 0; book = oneList 5 2 3 2 1 3 }
 
 abbrev withoutLast : ℕ → Pool
-withoutLast v = record { links = six 0 2 1 4 5 0; values = six 0 v v 0 0 0; book = oneBook 5 1 2 3 }
+withoutLast v = record { links = six 0 2 1 4 5 0; values = six 0 v v 0 0 0; book = oneList 5 1 2 2 3 3 }
 
 abbrev cleared : Pool
-cleared = record { links = six 0 4 1 2 5 0; values = six 0 0 0 0 0 0; book = oneBook 5 0 0 3 }
+cleared = record { links = six 0 4 1 2 5 0; values = six 0 0 0 0 0 0; book = oneList 5 0 0 0 3 5 }
 
 -- 01: "The slot's value becomes 0", whatever bits it had
 abbrev wipes : ℕ → List Case

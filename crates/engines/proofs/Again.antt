@@ -26,7 +26,7 @@ use Rattle.engines.specs.Done.{Pushes, Pops}
 use Rattle.engines.specs.Moves.{State, left}
 use Rattle.engines.specs.Undo.{SameHoldings, HeldAgain}
 use Rattle.engines.proofs.Shape.{unique-book}
-use Rattle.engines.proofs.Found.{listed, entry-is, within}
+use Rattle.engines.proofs.Found.{listed, entry-is, within, stored-length, stored-free}
 use Rattle.engines.proofs.Steps.{joined-one}
 use Rattle.engines.proofs.Book.{others-twice}
 use Rattle.engines.proofs.Outcomes.{push-done, pop-done}
@@ -51,12 +51,17 @@ holdings-of {E} {st} {t} {s} {u} l S T O held many =
       wasSound = S;
       is = u;
       isSound = T;
-      lists = O .sameCount;
+      lists = O .sameLists;
       granted = λ k h. granted-kept O k (ℕ-discrete k l);
       sequence = λ k h. held k (ℕ-discrete k l);
-      lengths = λ k h. sym (length-map (chainAt u k) (cell (t .values))) ∙ ap length (held k (ℕ-discrete k l)) ∙ length-map (chainAt s k) (cell (st .values));
+      lengths = λ k h. lengths k;
       free = many;
+      stored = λ k h. stored-length T k (omega (arith, O .sameLists)) ∙ lengths k ∙ sym (stored-length S k h);
+      freeCount = stored-free T ∙ many ∙ sym (stored-free S);
     }
+  where
+    lengths : (k : ℕ) → length (chainAt u k) ≡ length (chainAt s k)
+    lengths k = sym (length-map (chainAt u k) (cell (t .values))) ∙ ap length (held k (ℕ-discrete k l)) ∙ length-map (chainAt s k) (cell (st .values))
 
 module _ {E : Engine} (L : Lawful E) (st : State E) (l : ℕ) (end : End) where
   -- what a done push and a done pop mean on the shape that the pool is known to have
@@ -83,7 +88,7 @@ module _ {E : Engine} (L : Lawful E) (st : State E) (l : ℕ) (end : End) where
     push-leaves-one z =
         let (s, S, P) = push-done L (st .links) (st .values) (st .book) l end value z in
         let chain = getD-set-same (s .chains) l (joined end (P .slot) (chainAt s l)) [] (omega (arith, S .pool .lists, listed S l (P .listed))) in
-        pop-zero L (P .sound) l (omega (arith, P .listed, P .book .sameCount)) end .1 (omega (arith, ap length chain, length-joined end (P .slot) (chainAt s l)))
+        pop-zero L (P .sound) l (omega (arith, P .listed, P .book .sameLists)) end .1 (omega (arith, ap length chain, length-joined end (P .slot) (chainAt s l)))
 
     pub push-held-again : pushAt E st end l value .number ≡ 0 → HeldAgain E st value (popAt E pressed end l)
     push-held-again z = let (s, S, P) = push-done L (st .links) (st .values) (st .book) l end value z in go s S P
@@ -113,7 +118,7 @@ module _ {E : Engine} (L : Lawful E) (st : State E) (l : ℕ) (end : End) where
             given = joined-one end _ value _ _ (sym (Q .holds) ∙ ap (contents (pressed .values)) chain ∙ P .holds)
 
             there : chainAt (put mid l (Q .rest) freed) l ≡ Q .rest
-            there = getD-set-same (mid .chains) l (Q .rest) [] (omega (arith, P .sound .pool .lists, listed (P .sound) l (omega (arith, P .listed, P .book .sameCount))))
+            there = getD-set-same (mid .chains) l (Q .rest) [] (omega (arith, P .sound .pool .lists, listed (P .sound) l (omega (arith, P .listed, P .book .sameLists))))
 
             held : (k : ℕ) → Dec (k ≡ l) → contents (popAt E pressed end l .values) (chainAt (put mid l (Q .rest) freed) k) ≡ contents (st .values) (chainAt s k)
             held k (yes d) = rw d (ap (contents (popAt E pressed end l .values)) there ∙ given .1)
@@ -140,7 +145,7 @@ module _ {E : Engine} (L : Lawful E) (st : State E) (l : ℕ) (end : End) where
     one-more = refl
 
     below : l < lifted .book .lists
-    below = omega (arith, Q .listed, Q .book .sameCount)
+    below = omega (arith, Q .listed, Q .book .sameLists)
 
     chain : chainAt t l ≡ Q .rest
     chain = getD-set-same (s .chains) l (Q .rest) [] (omega (arith, S .pool .lists, listed S l (Q .listed)))
@@ -153,13 +158,13 @@ module _ {E : Engine} (L : Lawful E) (st : State E) (l : ℕ) (end : End) where
 
     share-at : (k : ℕ) → k < lifted .book .lists → entryAt es′ k .share ≡ entryAt es k .share
     share-at k b =
-        ap (λ (e : Entry). e .share) (entry-is (Q .sound) k b) ∙ granted-kept (Q .book) k (ℕ-discrete k l) .0 ∙ ap (λ (e : Entry). e .share) (sym (entry-is S k (omega (arith, Q .book .sameCount))))
+        ap (λ (e : Entry). e .share) (entry-is (Q .sound) k b) ∙ granted-kept (Q .book) k (ℕ-discrete k l) .0 ∙ ap (λ (e : Entry). e .share) (sym (entry-is S k (omega (arith, Q .book .sameLists))))
 
     lacking : lacks es′ (t .chains) + (entryAt es l .share - length (chainAt s l)) ≡ lacks es (s .chains) + (entryAt es l .share - length (Q .rest))
     lacking =
         omega (
           arith,
-          lacks-told es′ es (t .chains) (t .chains) (omega (arith, many′, many, Q .book .sameCount)) (λ k h. (share-at k (omega (arith, many′)), refl)),
+          lacks-told es′ es (t .chains) (t .chains) (omega (arith, many′, many, Q .book .sameLists)) (λ k h. (share-at k (omega (arith, many′)), refl)),
           ap (λ (ds : List Entry). lacks ds (t .chains)) (set-getD es l zeroEntry),
           lacks-set es (s .chains) l (entryAt es l) (Q .rest) (S .pool .lists) (listed S l (Q .listed)) refl,
         )

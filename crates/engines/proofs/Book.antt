@@ -14,7 +14,7 @@ use Rattle.engines.specs.Engine.{Engine}
 use Rattle.engines.specs.Sound.{SoundBook}
 use Rattle.engines.specs.Laws.{Lawful}
 use Rattle.engines.specs.Moves.{State}
-use Rattle.engines.proofs.Found.{listed, entry-is}
+use Rattle.engines.proofs.Found.{listed, entry-is, stored-length, stored-free}
 
 module _ {E E′ : Engine} {links : E .Links} {links′ : E′ .Links} {values values′ : List ℕ} {b c : AnyBook} {s : Shape} (l : ℕ) (below : l < b .lists) (S : SoundBook E links values b s) (T : SoundBook E′ links′ values′ c s) where
   -- two books that are sound with one shape have one entry for a list where its share and limit are the same
@@ -25,26 +25,30 @@ module _ {E E′ : Engine} {links : E .Links} {links′ : E′ .Links} {values v
     tail = (ap (λ (e : Entry). e .tail) (sym (entry-is T l below′)) ∙ T .pool .entry l (listed T l below′) .tail ∙ sym (S .pool .entry l (listed S l below) .tail) ∙ ap (λ (e : Entry). e .tail) (entry-is S l below)) i;
     share = share i;
     limit = limit i;
+    length = (stored-length T l below′ ∙ sym (stored-length S l below)) i;
   }
 
   -- and are one where the rest of their entries is the same
   pub book-one : OtherEntries b l c → c ≡ b
   book-one O =
-      λ i. record { places = O .samePlaces i; lists = O .sameCount i; entries = entries i; free = record { head = (T .pool .freeRecord .head ∙ sym (S .pool .freeRecord .head)) i } }
+      λ i. record { places = O .samePlaces i; lists = O .sameLists i; entries = entries i; free = free i }
     where
+      free : c .free ≡ b .free
+      free = λ i. record { head = (T .pool .freeRecord .head ∙ sym (S .pool .freeRecord .head)) i; count = (stored-free T ∙ sym (stored-free S)) i }
+
       entries : c .entries ≡ b .entries
-      entries = ext-getD zeroEntry (c .entries) (b .entries) (O .sameLength) (λ k h. at k (ℕ-discrete k l))
+      entries = ext-getD zeroEntry (c .entries) (b .entries) (O .sameEntries) (λ k h. at k (ℕ-discrete k l))
         where
           at : (k : ℕ) → Dec (k ≡ l) → entryAt (c .entries) k ≡ entryAt (b .entries) k
-          at k (yes d) = rw d (entry-one (omega (arith, O .sameCount)) (O .share) (O .limit))
+          at k (yes d) = rw d (entry-one (omega (arith, O .sameLists)) (O .share) (O .limit))
           at k (no d) = O .others k d
 
 pub others-twice : {b c d : AnyBook} {l : ℕ} → OtherEntries b l c → OtherEntries c l d → OtherEntries b l d
 others-twice P Q =
     record {
       samePlaces = Q .samePlaces ∙ P .samePlaces;
-      sameCount = Q .sameCount ∙ P .sameCount;
-      sameLength = Q .sameLength ∙ P .sameLength;
+      sameLists = Q .sameLists ∙ P .sameLists;
+      sameEntries = Q .sameEntries ∙ P .sameEntries;
       others = λ k d. Q .others k d ∙ P .others k d;
       share = Q .share ∙ P .share;
       limit = Q .limit ∙ P .limit;
@@ -54,8 +58,8 @@ pub others-between : {b c d : AnyBook} {l : ℕ} → OtherEntries b l c → Othe
 others-between P Q =
     record {
       samePlaces = Q .samePlaces ∙ sym (P .samePlaces);
-      sameCount = Q .sameCount ∙ sym (P .sameCount);
-      sameLength = Q .sameLength ∙ sym (P .sameLength);
+      sameLists = Q .sameLists ∙ sym (P .sameLists);
+      sameEntries = Q .sameEntries ∙ sym (P .sameEntries);
       others = λ k d. Q .others k d ∙ sym (P .others k d);
       share = Q .share ∙ sym (P .share);
       limit = Q .limit ∙ sym (P .limit);

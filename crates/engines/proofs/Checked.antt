@@ -22,7 +22,7 @@ use Rattle.engines.specs.Engine.{Engine}
 use Rattle.engines.specs.Sound.{Fit, Sound, SoundBook}
 use Rattle.engines.specs.Laws.{Lawful}
 use Rattle.engines.specs.FirstFault.{NullZero, AllChained, PoolBreaks}
-use Rattle.engines.specs.FirstFault.PoolBreaks.{ten, eleven, twelve, thirteen, fourteen, fifteen}
+use Rattle.engines.specs.FirstFault.PoolBreaks.{ten, eleven, twelve, thirteen, fourteen, fifteen, sixteen}
 use Rattle.engines.specs.Check.{sizesFit, idleFound, poolFound, checkFound}
 use Rattle.engines.proofs.Shape.{at-most}
 use Rattle.engines.proofs.Chains.{roundOf, pathOf, all-sums, all-path}
@@ -59,49 +59,40 @@ pool-rule (twelve e z b) = λ z. omega (arith, ap (λ f. f .rule) e)
 pool-rule (thirteen e z a b) = λ z. omega (arith, ap (λ f. f .rule) e)
 pool-rule (fourteen e z a c b) = λ z. omega (arith, ap (λ f. f .rule) e)
 pool-rule (fifteen e z a c w b) = λ z. omega (arith, ap (λ f. f .rule) e)
+pool-rule (sixteen e z a c w v b) = λ z. omega (arith, ap (λ f. f .rule) e)
 
-module _ {E : Engine} (L : Lawful E) (wanted : ℕ) (links : E .Links) (values : List ℕ) (es : List Entry) (free : Free) (fit : Fit E links values) where
+module _ {E : Engine} (L : Lawful E) (links : E .Links) (values : List ℕ) (es : List Entry) (free : Free) (fit : Fit E links values) where
   module _ (s : Shape) (S : Sound E links values es free s) where
-    found-is : poolFound E wanted links values es free ≡ idleFound (E .size links) values free (length es) (roundOf E wanted links es) (pathOf E wanted links values es free)
-    found-is = pool-idle E wanted links values es free (null-exactly L links values .1 (sound-null S)) (ap (λ f. f .rule) (all-sums L wanted links values es free fit (sound-chained S) .fault))
+    found-is : poolFound E links values es free ≡ idleFound (E .size links) values free (length es) (roundOf E links es) (pathOf E links values es free)
+    found-is = pool-idle E links values es free (null-exactly L links values .1 (sound-null S)) (ap (λ f. f .rule) (all-sums L links values es free fit (sound-chained S) .fault))
 
     -- what the check finds on a sound pool
-    pub sound-found : poolFound E wanted links values es free .fault ≡ noFault
-    sound-found = gives-none L wanted links values es free fit (sound-null S) (sound-chained S) (S .once) (S .wiped) (S .short) (S .spare)
+    pub sound-found : poolFound E links values es free .fault ≡ noFault
+    sound-found = gives-none L links values es free fit (sound-null S) (sound-chained S) (S .once) (S .wiped) (record { short = S .short; spare = S .spare }) (S .counted) (S .freeCounted)
 
-    pub sound-length : wanted < length es → poolFound E wanted links values es free .length ≡ length (chainAt s wanted)
-    sound-length b = ap (λ (f : Found). f .length) found-is ∙ all-sums L wanted links values es free fit (sound-chained S) .found wanted b (omega arith)
-
-    -- a list that there is not has no slots
-    pub sound-beyond : length es ≤ wanted → poolFound E wanted links values es free .length ≡ 0
-    sound-beyond h = ap (λ (f : Found). f .length) found-is ∙ all-sums L wanted links values es free fit (sound-chained S) .beyond (omega arith)
-
-    pub sound-lacks : poolFound E wanted links values es free .lacks ≡ lacks es (s .chains)
-    sound-lacks = ap (λ (f : Found). f .lacks) found-is ∙ omega (arith, all-sums L wanted links values es free fit (sound-chained S) .lacking)
-
-    pub sound-free : poolFound E wanted links values es free .free ≡ length (s .idle)
-    sound-free = ap (λ (f : Found). f .free) found-is ∙ ap (λ (p : Path). length (p .slots)) (all-path L wanted links values es free fit (sound-chained S))
+    pub sound-lacks : poolFound E links values es free .lacks ≡ lacks es (s .chains)
+    sound-lacks = ap (λ (f : Found). f .lacks) found-is ∙ omega (arith, all-sums L links values es free fit (sound-chained S) .lacking)
 
   -- the pool has no fault exactly where there is a sound shape
-  pub pool-exactly : poolFound E wanted links values es free .fault .rule ≡ 0 ↔ ((s : Shape) × Sound E links values es free s)
-  pool-exactly = (λ h. to h (pool-some L wanted links values es free fit), λ (s, S). ap (λ f. f .rule) (sound-found s S))
+  pub pool-exactly : poolFound E links values es free .fault .rule ≡ 0 ↔ ((s : Shape) × Sound E links values es free s)
+  pool-exactly = (λ h. to h (pool-some L links values es free fit), λ (s, S). ap (λ f. f .rule) (sound-found s S))
     where
-      to : poolFound E wanted links values es free .fault .rule ≡ 0 → ((f : Fault) × PoolBreaks E links values es free f) ⊎ ((s : Shape) × Sound E links values es free s)
+      to : poolFound E links values es free .fault .rule ≡ 0 → ((f : Fault) × PoolBreaks E links values es free f) ⊎ ((s : Shape) × Sound E links values es free s)
           → (s : Shape) × Sound E links values es free s
-      to h (inl (f, B)) = absurd (pool-rule B (sym (ap (λ f. f .rule) (pool-breaks L wanted links values es free fit B)) ∙ h))
+      to h (inl (f, B)) = absurd (pool-rule B (sym (ap (λ f. f .rule) (pool-breaks L links values es free fit B)) ∙ h))
       to h (inr S) = S
 
 -- demand 2: the check accepts exactly the pools that 01 calls sound, whatever the book's number of places
-pub found-exactly : {E : Engine} (L : Lawful E) (wanted : ℕ) (links : E .Links) (values : List ℕ) (b : AnyBook) → Fit E links values
-    → checkFound E wanted links values b .fault .rule ≡ 0 ↔ ((s : Shape) × SoundBook E links values b s)
+pub found-exactly : {E : Engine} (L : Lawful E) (links : E .Links) (values : List ℕ) (b : AnyBook) → Fit E links values
+    → checkFound E links values b .fault .rule ≡ 0 ↔ ((s : Shape) × SoundBook E links values b s)
 unfolding checkFound
-found-exactly {E} L wanted links values b f = (λ h. to (keepsRules (E .size links) b) refl h, λ (s, S). from s S)
+found-exactly {E} L links values b f = (λ h. to (keepsRules (E .size links) b) refl h, λ (s, S). from s S)
   where
-    to : (k : Bool) → keepsRules (E .size links) b ≡ k → checkFound E wanted links values b .fault .rule ≡ 0 → (s : Shape) × SoundBook E links values b s
+    to : (k : Bool) → keepsRules (E .size links) b ≡ k → checkFound E links values b .fault .rule ≡ 0 → (s : Shape) × SoundBook E links values b s
     to true e h =
-        let (s, S) = pool-exactly L wanted links values (take (b .lists) (b .entries)) (b .free) f .0 (rw e at h) in
+        let (s, S) = pool-exactly L links values (take (b .lists) (b .entries)) (b .free) f .0 (rw e at h) in
         (s, record { rules = keeps-rules (E .size links) b .0 e; pool = S })
     to false e h = let k : _≡_ {A = ℕ} 9 0 = rw e at h in absurd (omega arith)
 
-    from : (s : Shape) → SoundBook E links values b s → checkFound E wanted links values b .fault .rule ≡ 0
-    from s S = rw (keeps-rules (E .size links) b .1 (S .rules)) (pool-exactly L wanted links values (take (b .lists) (b .entries)) (b .free) f .1 (s, S .pool))
+    from : (s : Shape) → SoundBook E links values b s → checkFound E links values b .fault .rule ≡ 0
+    from s S = rw (keeps-rules (E .size links) b .1 (S .rules)) (pool-exactly L links values (take (b .lists) (b .entries)) (b .free) f .1 (s, S .pool))

@@ -21,17 +21,19 @@ use Rattle.shapes.specs.Shape.{Shape, chainAt}
 use Rattle.engines.specs.Engine.{Engine, Step}
 use Rattle.engines.specs.Sound.{SoundBook, Held}
 use Rattle.engines.specs.Laws.{Leaves, Lawful}
+use Rattle.engines.specs.Counted.{countedPop}
 use Rattle.engines.specs.Reads.{clearOn}
 use Rattle.engines.specs.Calls.{afterClear}
 use Rattle.engines.specs.Done.{Emptied, Clears}
 use Rattle.engines.specs.Done as D
 use Rattle.engines.proofs.Shape.{no-null, part}
 use Rattle.engines.proofs.Kept.{sound-put}
-use Rattle.engines.proofs.Found.{listed, entry-is}
+use Rattle.engines.proofs.Found.{listed, entry-is, stored-length, stored-free}
+use Rattle.engines.proofs.Counted.{popCounted, leaves-counted, pop-counted}
 use Rattle.engines.proofs.Steps.{end-part, book-held, entry-set, book-set, sound-set, others-kept}
 
 -- every slot of the list `xs` is wiped and in the idle chain, the last of them first, and no other slot's cells changed
-pub record Empties (E : Engine) (links : E .Links) (values : List ℕ) (list : Entry) (xs fs : List ℕ) (r : Step (E .Links)) : Type 0 where
+pub record Empties (E : Engine) (links : E .Links) (values : List ℕ) (list : Entry) (free : Free) (xs fs : List ℕ) (r : Step (E .Links)) : Type 0 where
   pub done : r .done ≡ true
   pub noValue : r .value ≡ 0
   pub held : Held E (r .links) (r .values) (r .entry) (r .free) [] (reverse xs ++ fs)
@@ -42,6 +44,8 @@ pub record Empties (E : Engine) (links : E .Links) (values : List ℕ) (list : E
   pub sameSize : length (r .values) ≡ length values
   pub size : E .size (r .links) ≡ E .size links
   pub frame : (y : ℕ) → count y xs ≡ 0 → E .Same links (r .links) y
+  pub noLength : r .entry .length ≡ 0
+  pub more : r .free .count ≡ free .count + length xs
 
 -- a list with a slot has a last one
 pub tail-not-null : {E : Engine} {links : E .Links} {values : List ℕ} {list : Entry} {free : Free} {x : ℕ} {xs fs : List ℕ} → Held E links values list free (x ∷ xs) fs → list .tail ≢ nullSlot
@@ -50,7 +54,7 @@ tail-not-null {x = x} {xs = xs} {fs = fs} H e =
     omega (arith, H .entry .tail, H .slots n (omega (arith, count-append n (x ∷ xs) fs, last-in x xs)) .0)
 
 -- a pop that is refused ends a clear, which then says that it is not done
-pub clear-stopped : (E : Engine) (n : ℕ) (links : E .Links) (values : List ℕ) (list : Entry) (free : Free) → E .pop Front links values list free .done ≡ false
+pub clear-stopped : (E : Engine) (n : ℕ) (links : E .Links) (values : List ℕ) (list : Entry) (free : Free) → countedPop E Front links values list free .done ≡ false
     → clearOn E (suc n) links values list free .done ≡ false
 unfolding clearOn
 clear-stopped E n links values list free d = rw d
@@ -58,9 +62,9 @@ clear-stopped E n links values list free d = rw d
 module _ {E : Engine} (L : Lawful E) where
   -- so many pops as the list has slots empty it
   pub clear-held : {links : E .Links} {values : List ℕ} {list : Entry} {free : Free} (xs : List ℕ) {fs : List ℕ} → Held E links values list free xs fs
-      → Empties E links values list xs fs (clearOn E (length xs) links values list free)
+      → list .length ≡ length xs → Empties E links values list free xs fs (clearOn E (length xs) links values list free)
   unfolding clearOn
-  clear-held {links} [] H =
+  clear-held {links} [] H c =
       record {
         done = refl;
         noValue = refl;
@@ -72,15 +76,17 @@ module _ {E : Engine} (L : Lawful E) where
         sameSize = refl;
         size = refl;
         frame = λ y h. L .sameSelf links y;
+        noLength = c;
+        more = omega arith;
       }
-  clear-held {links} {values} {list} {free} (s ∷ xs) {fs} H =
-      let p = E .pop Front links values list free in
-      let G = L .pop Front links values list free s xs fs H in
-      let I = clear-held xs (G .held) in
-      rw (G .done) (one-more p (clearOn E (length xs) (p .links) (p .values) (p .entry) (p .free)) G I)
+  clear-held {links} {values} {list} {free} (s ∷ xs) {fs} H c =
+      let p = popCounted L Front links values list free s xs fs H in
+      let G = leaves-counted L Front links values list free s xs fs H in
+      let I = clear-held xs (G .held) (omega (arith, c)) in
+      rw (pop-counted L Front links values list free s xs fs H, G .done) (one-more p (clearOn E (length xs) (p .links) (p .values) (p .entry) (p .free)) refl G I)
     where
-      one-more : (p r : Step (E .Links)) → Leaves E Front s links values list xs fs p → Empties E (p .links) (p .values) (p .entry) xs (s ∷ fs) r → Empties E links values list (s ∷ xs) fs r
-      one-more p r G I =
+      one-more : (p r : Step (E .Links)) → p .free .count ≡ free .count + 1 → Leaves E Front s links values list xs fs p → Empties E (p .links) (p .values) (p .entry) (p .free) xs (s ∷ fs) r → Empties E links values list free (s ∷ xs) fs r
+      one-more p r fewer G I =
           record {
             done = I .done;
             noValue = I .noValue;
@@ -92,6 +98,8 @@ module _ {E : Engine} (L : Lawful E) where
             sameSize = I .sameSize ∙ rw (G .cells) (length-set values s wipeWord);
             size = I .size ∙ G .size;
             frame = λ y z. L .sameTwice links (p .links) (r .links) y (G .frame y (omega (arith, end-part Front xs y))) (I .frame y (omega arith));
+            noLength = I .noLength;
+            more = omega (arith, I .more);
           }
         where
           s-in : (0 < s) × (s < E .size links)
@@ -105,13 +113,17 @@ module _ {E : Engine} (L : Lawful E) where
 
   -- ---- until the list is empty
 
-  pub clear-emptied : {links : E .Links} {values : List ℕ} {list : Entry} {free : Free} (xs : List ℕ) {fs : List ℕ} → Held E links values list free xs fs
+  pub clear-emptied : {links : E .Links} {values : List ℕ} {list : Entry} {free : Free} (xs : List ℕ) {fs : List ℕ} → Held E links values list free xs fs → list .length ≡ length xs
       → Emptied E links values list free (clearOn E (length xs) links values list free)
   unfolding clearOn
-  clear-emptied [] H = D.empty (H .entry .tail)
-  clear-emptied {links} {values} {list} {free} (s ∷ xs) {fs} H =
-      let G = L .pop Front links values list free s xs fs H in
-      rw (G .done) (D.popped (tail-not-null H) (G .done) (clear-emptied xs (G .held)))
+  clear-emptied [] H c = D.empty (H .entry .tail)
+  clear-emptied {links} {values} {list} {free} (s ∷ xs) {fs} H c =
+      let G = leaves-counted L Front links values list free s xs fs H in
+      let e = pop-counted L Front links values list free s xs fs H in
+      let rest = clear-emptied xs (G .held) (omega (arith, c)) in
+      let here : countedPop E Front links values list free .done ≡ true = rw e (G .done) in
+      let more = D.popped (tail-not-null H) here (subst (λ (o : Step (E .Links)). Emptied E (o .links) (o .values) (o .entry) (o .free) (clearOn E (length xs) (o .links) (o .values) (o .entry) (o .free))) (sym e) rest) in
+      rw here more
 
 -- there is one result only
 pub emptied-unique : {E : Engine} {links : E .Links} {values : List ℕ} {list : Entry} {free : Free} {r r′ : Step (E .Links)} → Emptied E links values list free r → Emptied E links values list free r′ → r ≡ r′
@@ -122,9 +134,9 @@ emptied-unique (D.popped n p q) (D.popped m k o) = emptied-unique q o
 
 module _ {E : Engine} (L : Lawful E) where
   -- 01: "Clear: equals popping the front until the list is empty"
-  pub clear-until-empty : {links : E .Links} {values : List ℕ} {list : Entry} {free : Free} (xs : List ℕ) {fs : List ℕ} → Held E links values list free xs fs
+  pub clear-until-empty : {links : E .Links} {values : List ℕ} {list : Entry} {free : Free} (xs : List ℕ) {fs : List ℕ} → Held E links values list free xs fs → list .length ≡ length xs
       → (r : Step (E .Links)) → Emptied E links values list free r ↔ r ≡ clearOn E (length xs) links values list free
-  clear-until-empty xs H r = (λ e. emptied-unique e (clear-emptied L xs H), λ e. rw e (clear-emptied L xs H))
+  clear-until-empty xs H c r = (λ e. emptied-unique e (clear-emptied L xs H c), λ e. rw e (clear-emptied L xs H c))
 
   -- ---- on a sound pool
 
@@ -145,16 +157,20 @@ module _ {E : Engine} (L : Lawful E) where
             (C .cells 0 (omega (arith, part (S .pool) l 0, no-null (S .pool))) ∙ S .pool .nullValue)
             (C .share ∙ ap (λ (d : Entry). d .share) (sym (entry-is S l below)))
             (omega arith)
-            (omega (arith, S .pool .spare, length-append (reverse xs) (s .idle), length-reverse xs)));
+            (omega (arith, S .pool .spare, length-append (reverse xs) (s .idle), length-reverse xs))
+            (C .noLength)
+            (omega (arith, C .more, stored-free S, length-append (reverse xs) (s .idle), length-reverse xs)));
         emptied = subst (λ (o : Step (E .Links)). Emptied E links values e (b .free) o)
             (λ j. record { done = C .done j; value = C .noValue j; entry = sym (entry-set S l below (r .entry)) j; free = r .free; links = r .links; values = r .values })
-            (clear-emptied L xs (book-held S l below));
+            (clear-emptied L xs (book-held S l below) right);
         wiped = C .wiped;
         otherLists = others-kept S l below (r .values) (λ y p q. C .cells y p);
         cells = C .cells;
         sameSize = C .sameSize;
         frame = C .frame;
         book = book-set S l below (r .entry) (r .free) (C .share) (C .limit);
+        noLength = ap (λ (d : Entry). d .length) (entry-set S l below (r .entry)) ∙ C .noLength;
+        allMore = omega (arith, C .more, stored-length S l below);
       }
     where
       xs : List ℕ
@@ -166,8 +182,11 @@ module _ {E : Engine} (L : Lawful E) where
       r : Step (E .Links)
       r = clearOn E (length xs) links values e (b .free)
 
-      C : Empties E links values e xs (s .idle) r
-      C = clear-held L xs (book-held S l below)
+      right : e .length ≡ length xs
+      right = stored-length S l below
+
+      C : Empties E links values e (b .free) xs (s .idle) r
+      C = clear-held L xs (book-held S l below) right
 
       moved : (y : ℕ) → count y (reverse xs ++ s .idle) ≡ count y xs + count y (s .idle)
       moved y = omega (arith, count-append y (reverse xs) (s .idle), count-reverse y xs)

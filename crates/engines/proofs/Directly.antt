@@ -2,7 +2,7 @@
 use mathlib.Core.Path.{_≡_, refl, sym, ap, subst, _∙_}
 use mathlib.Core.Bool.{not, _&&_}
 use mathlib.Core.List.{List, [], _∷_, _++_, append-assoc, reverse}
-use Prim.Native.Nat.{ℕ, _+_, _≤_}
+use Prim.Native.Nat.{ℕ, _-_, _+_, _≤_}
 use native.Mathlib.Decide.{ℕ-discrete}
 use native.Mathlib.Omega.{arith}
 use lib.Dec.{eqb}
@@ -126,7 +126,7 @@ module _ {E : Engine} (L : Lawful E) (places : ℕ) (links : E .Links) (values :
       number : r .number ≡ r′ .number
       number =
           setup-number E places links values lists shares limits
-          ∙ (λ i. firstThat (test 1 (not (same-sizes E links links′ values values′ even size many i)) ∷ test 2 (not (keepsRules (size i) (freshBookOf places lists shares limits))) ∷ []))
+          ∙ (λ i. firstThat (test 1 (not (same-sizes E links links′ values values′ even size many i)) ∷ test 2 (not (keepsRules (size i) (freshBookOf (size i - 1) places lists shares limits))) ∷ []))
           ∙ sym (setup-number E places links′ values′ lists shares limits)
 
       -- what a done setup means speaks of the size alone
@@ -142,6 +142,8 @@ module _ {E : Engine} (L : Lawful E) (places : ℕ) (links : E .Links) (values :
             share = K .share;
             limit = K .limit;
             freeHead = K .freeHead;
+            noLength = K .noLength;
+            freeCount = K .freeCount ∙ sym size;
             sameSize = K .sameSize ∙ sym size;
             sound = subst (λ (n : ℕ). SoundBook E (r′ .links) (r′ .values) (r′ .book) (freshShape n lists)) (sym size) (K .sound);
           }

@@ -1,4 +1,4 @@
--- Which of 6, 7 and 0 a push gets on a list of a sound pool, which of 5 and 0 a pop, which of 8 and 0 a read; that length and clear are done, and that no call on a sound pool gets 1 or one of 9 to 15; on any engine.
+-- Which of 6, 7 and 0 a push gets on a list of a sound pool, which of 5 and 0 a pop, which of 8 and 0 a read; that length and clear are done, and that no call on a sound pool gets 1 or one of 9 to 16; on any engine.
 use mathlib.Core.Path.{_≡_, refl, ap, subst}
 use mathlib.Core.Logic.{_↔_, _≢_, _⊎_, inl, inr, ⊎-elim}
 use mathlib.Core.List.{List, [], _∷_, _++_}
@@ -24,7 +24,7 @@ use Rattle.engines.proofs.Found.{entry-is, within}
 use Rattle.engines.proofs.FirstFault.{sound-unbroken}
 use Rattle.engines.proofs.When.{none-broken, length-given, push-given, pop-given, clear-given, read-given}
 
--- ---- 1, and 9 to 15
+-- ---- 1, and 9 to 16
 
 -- conditions of the calls' own, with numbers from 4 to 8
 abbrev pub OwnNumbers : List Condition → Type 0
@@ -71,7 +71,7 @@ module _ {E : Engine} (L : Lawful E) {links : E .Links} {values : List ℕ} {b :
   abbrev Tight : Shape → Type 0
   Tight t = (length (chainAt t l) < e .limit) × (e .share ≤ length (chainAt t l)) × (length (t .idle) ≤ lacks (take (b .lists) (b .entries)) (t .chains))
 
-  -- what comes after 1, 9 to 15 and 4 decides
+  -- what comes after 1, 9 to 16 and 4 decides
   own-decides : {cs : List Condition} {k : ℕ} → Given cs k → Given (listConditions E links values b l ++ cs) k
   own-decides g = N.later (λ (n : Fit E links values → ⊥). n (S .pool .fit)) (none-broken L links values b S faultRules (N.later (λ (h : b .lists ≤ l). omega arith) g))
 

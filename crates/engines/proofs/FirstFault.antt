@@ -42,51 +42,51 @@ module _ {E : Engine} (L : Lawful E) (links : E .Links) (values : List ℕ) (b :
       pool e (inr (s, S)) = inr (s, record { rules = keeps-rules (E .size links) b .0 e; pool = S })
 
       go : (k : Bool) → keepsRules (E .size links) b ≡ k → ((f : Fault) × Breaks E links values b f) ⊎ ((s : Shape) × SoundBook E links values b s)
-      go true e = pool e (pool-some L 0 links values (take (b .lists) (b .entries)) (b .free) fit)
+      go true e = pool e (pool-some L links values (take (b .lists) (b .entries)) (b .free) fit)
       go false e = inl (fault 9 0 0, nine refl (λ r. not-both _ (keeps-rules (E .size links) b .1 r) e))
 
-  module _ (wanted : ℕ) where
-    rules-broken : keepsRules (E .size links) b ≡ false → checkFound E wanted links values b .fault ≡ fault 9 0 0
+  module _ where
+    rules-broken : keepsRules (E .size links) b ≡ false → checkFound E links values b .fault ≡ fault 9 0 0
     unfolding checkFound
     rules-broken e = rw e
 
-    rules-kept : keepsRules (E .size links) b ≡ true → checkFound E wanted links values b ≡ poolFound E wanted links values (take (b .lists) (b .entries)) (b .free)
+    rules-kept : keepsRules (E .size links) b ≡ true → checkFound E links values b ≡ poolFound E links values (take (b .lists) (b .entries)) (b .free)
     unfolding checkFound
     rules-kept e = rw e
 
     -- the check gives the rule that is first broken
-    pub breaks-found : {f : Fault} → Breaks E links values b f → checkFound E wanted links values b .fault ≡ f
+    pub breaks-found : {f : Fault} → Breaks E links values b f → checkFound E links values b .fault ≡ f
     breaks-found (nine e n) = rules-broken (go (keepsRules (E .size links) b) refl) ∙ sym e
       where
         go : (k : Bool) → keepsRules (E .size links) b ≡ k → k ≡ false
         go true i = absurd (n (keeps-rules (E .size links) b .0 i))
         go false i = refl
     breaks-found (later r B) =
-        ap (λ (f : Found). f .fault) (rules-kept (keeps-rules (E .size links) b .1 r)) ∙ pool-breaks L wanted links values (take (b .lists) (b .entries)) (b .free) fit B
+        ap (λ (f : Found). f .fault) (rules-kept (keeps-rules (E .size links) b .1 r)) ∙ pool-breaks L links values (take (b .lists) (b .entries)) (b .free) fit B
 
     -- and gives nothing else: no fault on a sound pool, or the rule that is first broken
-    pub first-fault : ((checkFound E wanted links values b .fault ≡ noFault) × ((s : Shape) × SoundBook E links values b s)) ⊎ Breaks E links values b (checkFound E wanted links values b .fault)
+    pub first-fault : ((checkFound E links values b .fault ≡ noFault) × ((s : Shape) × SoundBook E links values b s)) ⊎ Breaks E links values b (checkFound E links values b .fault)
     first-fault = go breaks-some
       where
         go : ((f : Fault) × Breaks E links values b f) ⊎ ((s : Shape) × SoundBook E links values b s)
-            → ((checkFound E wanted links values b .fault ≡ noFault) × ((s : Shape) × SoundBook E links values b s)) ⊎ Breaks E links values b (checkFound E wanted links values b .fault)
+            → ((checkFound E links values b .fault ≡ noFault) × ((s : Shape) × SoundBook E links values b s)) ⊎ Breaks E links values b (checkFound E links values b .fault)
         go (inl (f, B)) = inr (subst (Breaks E links values b) (sym (breaks-found B)) B)
-        go (inr (s, S)) = inl (found-fine L S wanted, (s, S))
+        go (inr (s, S)) = inl (found-fine L S, (s, S))
 
     -- 02 b): what the check names is exactly the first rule broken
-    pub fault-exactly : (f : Fault) → f .rule ≢ 0 → checkFound E wanted links values b .fault ≡ f ↔ Breaks E links values b f
+    pub fault-exactly : (f : Fault) → f .rule ≢ 0 → checkFound E links values b .fault ≡ f ↔ Breaks E links values b f
     fault-exactly f n = (λ e. go e first-fault, breaks-found)
       where
-        go : checkFound E wanted links values b .fault ≡ f
-            → ((checkFound E wanted links values b .fault ≡ noFault) × ((s : Shape) × SoundBook E links values b s)) ⊎ Breaks E links values b (checkFound E wanted links values b .fault)
+        go : checkFound E links values b .fault ≡ f
+            → ((checkFound E links values b .fault ≡ noFault) × ((s : Shape) × SoundBook E links values b s)) ⊎ Breaks E links values b (checkFound E links values b .fault)
             → Breaks E links values b f
         go e (inl (z, S)) = absurd (n (ap (λ f. f .rule) (sym e ∙ z)))
         go e (inr B) = subst (Breaks E links values b) e B
 
   -- one rule only is the first that is broken, at one list and position
   pub only-fault : {f g : Fault} → Breaks E links values b f → Breaks E links values b g → f ≡ g
-  only-fault F G = sym (breaks-found 0 F) ∙ breaks-found 0 G
+  only-fault F G = sym (breaks-found F) ∙ breaks-found G
 
   -- and none is where the pool is sound
   pub sound-unbroken : {f : Fault} {s : Shape} → SoundBook E links values b s → Breaks E links values b f → ⊥
-  sound-unbroken S B = breaks-rule B (ap (λ f. f .rule) (sym (breaks-found 0 B) ∙ found-fine L S 0))
+  sound-unbroken S B = breaks-rule B (ap (λ f. f .rule) (sym (breaks-found B) ∙ found-fine L S))

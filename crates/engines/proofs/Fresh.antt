@@ -58,10 +58,10 @@ module _ (size places lists : ℕ) (shares limits : List ℕ) where
   fresh-entry-is l h = tabulate-at zeroEntry places (freshEntry shares limits) l h
 
   -- the fresh book keeps the book rules exactly where what was asked for does
-  pub fresh-rules : BookRules size (freshBookOf places lists shares limits) ↔ SetupRules size places lists shares limits
+  pub fresh-rules : BookRules size (freshBookOf (size - 1) places lists shares limits) ↔ SetupRules size places lists shares limits
   fresh-rules = (to, from)
     where
-      to : BookRules size (freshBookOf places lists shares limits) → SetupRules size places lists shares limits
+      to : BookRules size (freshBookOf (size - 1) places lists shares limits) → SetupRules size places lists shares limits
       to R =
           record {
             least = R .least;
@@ -71,7 +71,7 @@ module _ (size places lists : ℕ) (shares limits : List ℕ) where
             unused = λ l h b. let e = sym (fresh-entry-is l b) ∙ R .unused l h in (ap (λ (d : Entry). d .share) e, ap (λ (d : Entry). d .limit) e);
           }
 
-      from : SetupRules size places lists shares limits → BookRules size (freshBookOf places lists shares limits)
+      from : SetupRules size places lists shares limits → BookRules size (freshBookOf (size - 1) places lists shares limits)
       from R =
           record {
             least = R .least;
@@ -163,14 +163,14 @@ fresh-wiped y p = simp (ne-eqb y 0 (λ e. omega arith))
 
 module _ {E : Engine} (L : Lawful E) (places : ℕ) (links : E .Links) (values : List ℕ) (lists : ℕ) (shares limits : List ℕ) where
   abbrev made : AnyBook
-  made = freshBookOf places lists shares limits
+  made = freshBookOf (E .size links - 1) places lists shares limits
 
   -- an empty list is held by any links
   empty-live : (any : E .Links) → E .Live any []
   empty-live any = L .liveTied any [] .1 tt
 
   fresh-sound : Fit E links values → BookRules (E .size links) made
-      → Sound E (E .fresh links) (tabulate (length values) freshValue) (take lists (made .entries)) (record { head = 1 }) (freshShape (E .size links) lists)
+      → Sound E (E .fresh links) (tabulate (length values) freshValue) (take lists (made .entries)) (made .free) (freshShape (E .size links) lists)
   fresh-sound fit rules =
       record {
         fit = record { even = F .even ∙ fit .even; same = F .size ∙ fit .same ∙ sym (tabulate-length (length values) freshValue); size = rw (F .size) (fit .size) };
@@ -189,6 +189,8 @@ module _ {E : Engine} (L : Lawful E) (places : ℕ) (links : E .Links) (values :
         nullValue = tabulate-at 0 (length values) freshValue 0 (omega (arith, fit .same, fit .size .least)) ∙ fresh-zero;
         short = λ l b. rw (no-chain lists l) (omega arith);
         spare = omega (arith, all-lack lists used, rules .fits, from-length 1 n);
+        counted = λ l b. ap (λ (e : Entry). e .length) (each-new l b) ∙ sym (ap length (no-chain lists l));
+        freeCounted = sym (from-length 1 n);
       }
     where
       -- how many slots there are
@@ -213,7 +215,7 @@ module _ {E : Engine} (L : Lawful E) (places : ℕ) (links : E .Links) (values :
 
 module _ (E : Engine) (places : ℕ) (links : E .Links) (values : List ℕ) (lists : ℕ) (shares limits : List ℕ) where
   abbrev Goes : Type 0
-  Goes = (Fit E links values × BookRules (E .size links) (freshBookOf places lists shares limits))
+  Goes = (Fit E links values × BookRules (E .size links) (freshBookOf (E .size links - 1) places lists shares limits))
       × (setupCall E places links values lists shares limits ≡ setUp E places links values lists shares limits)
 
   abbrev Stops : Type 0
@@ -222,9 +224,9 @@ module _ (E : Engine) (places : ℕ) (links : E .Links) (values : List ℕ) (lis
   -- the two ways that setup can go
   setup-way : Goes ⊎ Stops
   unfolding setupCall decided
-  setup-way = go (sizesFit E links values) (keepsRules (E .size links) (freshBookOf places lists shares limits)) refl refl
+  setup-way = go (sizesFit E links values) (keepsRules (E .size links) (freshBookOf (E .size links - 1) places lists shares limits)) refl refl
     where
-      go : (a b : Bool) → sizesFit E links values ≡ a → keepsRules (E .size links) (freshBookOf places lists shares limits) ≡ b → Goes ⊎ Stops
+      go : (a b : Bool) → sizesFit E links values ≡ a → keepsRules (E .size links) (freshBookOf (E .size links - 1) places lists shares limits) ≡ b → Goes ⊎ Stops
       go true true ea eb = inl ((fits-exactly E links values .0 ea, keeps-rules (E .size links) _ .0 eb), rw (ea, eb))
       go true false ea eb = inr (rw (ea, eb) (λ e. omega arith, record { unplaced = refl; noValue = refl; zeroed = refl; sameLinks = refl; sameValues = refl }))
       go false b ea eb = inr (rw ea (λ e. omega arith, record { unplaced = refl; noValue = refl; zeroed = refl; sameLinks = refl; sameValues = refl }))
@@ -266,6 +268,8 @@ module _ {E : Engine} (L : Lawful E) (places : ℕ) (links : E .Links) (values :
             share = λ l b. ap (λ (d : Entry). d .share) (fresh-entry-is (E .size links) places lists shares limits l b);
             limit = λ l b. ap (λ (d : Entry). d .limit) (fresh-entry-is (E .size links) places lists shares limits l b);
             freeHead = refl;
+            noLength = λ l b. ap (λ (d : Entry). d .length) (fresh-entry-is (E .size links) places lists shares limits l b);
+            freeCount = omega (arith, w .0 .0 .size .least);
             sameSize = L .fresh links .size;
             sound = subst (λ (o : Called E). SoundBook E (o .links) (o .values) (o .book) (freshShape (E .size links) lists)) (w .1) (setup-sound z);
           })

@@ -1,7 +1,7 @@
 -- The walks along the lists over any engine: they find no fault exactly where there is a chain for each list, and what they gather is said of those chains.
 use mathlib.Core.Path.{_≡_, refl, sym, ap, subst, _∙_}
 use mathlib.Core.Logic.{_↔_, _≢_}
-use mathlib.Core.Bool.{Bool, true, false, cond, _&&_}
+use mathlib.Core.Bool.{Bool, true, false, not, _&&_}
 use mathlib.Core.List.{List, [], _∷_, _++_}
 use Prim.Native.Nat.{ℕ, zero, suc, _+_, _≤_, _<_, suc-le-suc}
 use native.Mathlib.Nat.{suc-inj, le-of-suc-le-suc, not-suc-le-zero, zero-lt-suc}
@@ -9,10 +9,10 @@ use native.Mathlib.Decide.{decLt}
 use native.Mathlib.Omega.{arith}
 use lib.Dec.{ltb, eqb}
 use lib.ListN.{length, getD, length-append}
-use borrow.Author.Tests.{eqb-true, eq-eqb, ne-eqb, lt-ltb, le-ltb}
+use borrow.Author.Tests.{eqb-true, eq-eqb, ne-eqb, ltb-true, lt-ltb}
 use Rattle.books.specs.declared.Entry.{Entry}
 use Rattle.books.specs.Book.{nullSlot, entryAt}
-use Rattle.books.proofs.Tests.{and-both, cond-ind}
+use Rattle.books.proofs.Tests.{and-both, cond-ind, not-both}
 use Rattle.chains.specs.Count.{count}
 use Rattle.chains.specs.Chain.{firstOr, lastOr}
 use Rattle.chains.proofs.Count.{count-append}
@@ -25,8 +25,9 @@ use Rattle.shapes.specs.Faults.{fault, gatherOne, Round}
 use Rattle.engines.specs.Engine.{Engine}
 use Rattle.engines.specs.Sound.{EntryHolds}
 use Rattle.engines.specs.Laws.{Lawful}
-use Rattle.engines.specs.FirstFault.{Chained, LowestOver}
+use Rattle.engines.specs.FirstFault.{Chained}
 use Rattle.engines.specs.Check.{headPath, livePath, endsWell, gatherAll}
+use Rattle.shapes.proofs.Lowest.{LowestTold, lowest-none, lowest-more}
 use Rattle.shapes.proofs.Walks.{walk-fresh, walk-only, walk-finds, walkable-passed}
 
 -- the chains `cs` of the lists `es`, with no slot twice and none that was met
@@ -36,17 +37,14 @@ pub record Walked (E : Engine) (links : E .Links) (met : List ℕ) (es : List En
   pub once : (y : ℕ) → seen met y + count y (joinedUp cs) ≤ 1
 
 -- what was gathered from `g` on, along those chains; `list` is the number of the first
-pub record Sums (wanted lists list : ℕ) (met : List ℕ) (es : List Entry) (cs : List (List ℕ)) (g : Gathered) (r : Round) : Type 0 where
+pub record Sums (lists list : ℕ) (met : List ℕ) (es : List Entry) (cs : List (List ℕ)) (g : Gathered) (r : Round) : Type 0 where
   pub fault : r .gathered .fault ≡ g .fault
   pub marks : (y : ℕ) → seen (r .met) y ≡ seen met y + count y (joinedUp cs)
   pub live : r .gathered .live ≡ g .live + length (joinedUp cs)
   pub lacking : r .gathered .lacks ≡ g .lacks + lacks es cs
-  pub over : g .over ≡ lists → (r .gathered .over ≡ lists ↔ ((l : ℕ) → l < length es → length (getD cs l []) ≤ entryAt es l .limit))
-  pub lowest : g .over ≡ lists → r .gathered .over ≢ lists → (l : ℕ) × (r .gathered .over ≡ list + l) × LowestOver es cs l
-  pub stuck : g .over ≢ lists → r .gathered .over ≡ g .over
-  pub found : (l : ℕ) → l < length es → wanted ≡ list + l → r .gathered .length ≡ length (getD cs l [])
-  pub passed : wanted < list → r .gathered .length ≡ g .length
-  pub beyond : list + length es ≤ wanted → r .gathered .length ≡ g .length
+  -- the lowest list that is over its limit, and the lowest whose stored length is wrong
+  pub over : LowestTold lists list (length es) (λ l. entryAt es l .limit < length (getD cs l [])) (g .over) (r .gathered .over)
+  pub wrong : LowestTold lists list (length es) (λ l. entryAt es l .length ≢ length (getD cs l [])) (g .wrong) (r .gathered .wrong)
 
 -- ---- one list more
 
@@ -70,50 +68,22 @@ module _ {E : Engine} {links : E .Links} {e : Entry} {es : List Entry} {xs : Lis
     record { lists = suc-inj (C .lists); entry = λ l b. C .entry (suc l) (suc-le-suc b); live = λ l b. C .live (suc l) (suc-le-suc b) },
   )
 
-module _ (wanted lists list : ℕ) (met : List ℕ) (e : Entry) (es : List Entry) (xs : List ℕ) (cs : List (List ℕ)) (g : Gathered) (r : Round) (met′ : List ℕ)
+-- the test that two numbers are not the same
+not-same : (a b : ℕ) → not (eqb a b) ≡ true ↔ (a ≢ b)
+not-same a b = (λ h e. not-both true refl (sym (rw (eq-eqb a b e) at h)), λ d. rw (ne-eqb a b d))
+
+module _ (lists list : ℕ) (met : List ℕ) (e : Entry) (es : List Entry) (xs : List ℕ) (cs : List (List ℕ)) (g : Gathered) (r : Round) (met′ : List ℕ)
     (below : list < lists) (marked : (y : ℕ) → seen met′ y ≡ seen met y + count y xs) where
-  sums-more : Sums wanted lists (suc list) met′ es cs (gatherOne wanted lists list e (length xs) g) r → Sums wanted lists list met (e ∷ es) (xs ∷ cs) g r
+  sums-more : Sums lists (suc list) met′ es cs (gatherOne lists list e (length xs) g) r → Sums lists list met (e ∷ es) (xs ∷ cs) g r
   sums-more S =
       record {
         fault = S .fault;
         marks = λ y. omega (arith, S .marks y, marked y, count-append y xs (joinedUp cs));
         live = omega (arith, S .live, length-append xs (joinedUp cs));
         lacking = omega (arith, S .lacking);
-        over = λ o. over-is o (decLt (e .limit) (length xs));
-        lowest = λ o d. lowest-is o d (decLt (e .limit) (length xs));
-        stuck = λ o. S .stuck (rw (ne-eqb (g .over) lists o) o) ∙ rw (ne-eqb (g .over) lists o);
-        found = found-is;
-        passed = λ h. S .passed (omega arith) ∙ rw (ne-eqb list wanted (λ i. omega arith));
-        beyond = λ h. S .beyond (omega arith) ∙ rw (ne-eqb list wanted (λ i. omega arith));
+        over = lowest-more lists list (length es) _ (g .over) _ below (ltb (e .limit) (length xs)) (ltb-true _ _, lt-ltb _ _) (S .over);
+        wrong = lowest-more lists list (length es) _ (g .wrong) _ below (not (eqb (e .length) (length xs))) (not-same (e .length) (length xs)) (S .wrong);
       }
-    where
-      over-is : g .over ≡ lists → Dec (e .limit < length xs) → (r .gathered .over ≡ lists ↔ ((l : ℕ) → l < length (e ∷ es) → length (getD (xs ∷ cs) l []) ≤ entryAt (e ∷ es) l .limit))
-      over-is o (yes h) =
-          let now : cond (eqb (g .over) lists && ltb (e .limit) (length xs)) list (g .over) ≡ list = rw (eq-eqb (g .over) lists o, lt-ltb (e .limit) (length xs) h) in
-          let q : r .gathered .over ≡ list = S .stuck (λ i. omega (arith, sym now ∙ i)) ∙ now in
-          (λ k. absurd (omega arith), λ k. absurd (omega (arith, k zero (zero-lt-suc (length es)))))
-      over-is o (no h) =
-          let now : cond (eqb (g .over) lists && ltb (e .limit) (length xs)) list (g .over) ≡ lists = rw (eq-eqb (g .over) lists o, le-ltb (e .limit) (length xs) (omega arith)) o in
-          let i = S .over now in
-          (λ k. each (λ d zs. length zs ≤ d .limit) e es xs cs (omega arith) (i .0 k), λ k. i .1 (λ l b. k (suc l) (suc-le-suc b)))
-
-      lowest-is : g .over ≡ lists → r .gathered .over ≢ lists → Dec (e .limit < length xs) → (l : ℕ) × (r .gathered .over ≡ list + l) × LowestOver (e ∷ es) (xs ∷ cs) l
-      lowest-is o d (yes h) =
-          let now : cond (eqb (g .over) lists && ltb (e .limit) (length xs)) list (g .over) ≡ list = rw (eq-eqb (g .over) lists o, lt-ltb (e .limit) (length xs) h) in
-          let q : r .gathered .over ≡ list = S .stuck (λ i. omega (arith, sym now ∙ i)) ∙ now in
-          (0, omega arith, record { below = zero-lt-suc (length es); over = h; lowest = λ k b. absurd (not-suc-le-zero b) })
-      lowest-is o d (no h) =
-          let now : cond (eqb (g .over) lists && ltb (e .limit) (length xs)) list (g .over) ≡ lists = rw (eq-eqb (g .over) lists o, le-ltb (e .limit) (length xs) (omega arith)) o in
-          let (l, q, low) = S .lowest now d in
-          (suc l, omega arith, record { below = suc-le-suc (low .below); over = low .over; lowest = lower l low })
-        where
-          lower : (l : ℕ) → LowestOver es cs l → (k : ℕ) → k < suc l → length (getD (xs ∷ cs) k []) ≤ entryAt (e ∷ es) k .limit
-          lower l low zero b = omega arith
-          lower l low (suc k) b = low .lowest k (le-of-suc-le-suc b)
-
-      found-is : (l : ℕ) → l < length (e ∷ es) → wanted ≡ list + l → r .gathered .length ≡ length (getD (xs ∷ cs) l [])
-      found-is zero b w = S .passed (omega arith) ∙ rw (eq-eqb list wanted (omega arith))
-      found-is (suc l) b w = S .found l (le-of-suc-le-suc b) (omega arith)
 
 module _ (E : Engine) (links : E .Links) (met met′ : List ℕ) (e : Entry) (es : List Entry) (xs : List ℕ) (cs : List (List ℕ)) (marked : (y : ℕ) → seen met′ y ≡ seen met y + count y xs) where
   walked-more : EntryHolds e xs → E .Live links xs → ((y : ℕ) → 0 < count y xs → (0 < y) × (y < E .size links)) → Walked E links met′ es cs → Walked E links met (e ∷ es) (xs ∷ cs)
@@ -157,55 +127,51 @@ module _ (E : Engine) (links : E .Links) (met : List ℕ) (list : Entry) where
 
 -- ---- all lists
 
-pub no-lists : (E : Engine) (wanted lists list : ℕ) (links : E .Links) (met : List ℕ) (g : Gathered) → Sums wanted lists list met [] [] g (gatherAll E wanted lists links list [] met g)
+pub no-lists : (E : Engine) (lists list : ℕ) (links : E .Links) (met : List ℕ) (g : Gathered) → Sums lists list met [] [] g (gatherAll E lists links list [] met g)
 unfolding gatherAll
-no-lists E wanted lists list links met g =
+no-lists E lists list links met g =
     record {
       fault = refl;
       marks = λ y. omega arith;
       live = omega arith;
       lacking = omega arith;
-      over = λ o. (λ k l b. absurd (not-suc-le-zero b), λ k. o);
-      lowest = λ o d. absurd (d o);
-      stuck = λ o. refl;
-      found = λ l b. absurd (not-suc-le-zero b);
-      passed = λ h. refl;
-      beyond = λ h. refl;
+      over = lowest-none lists list _ (g .over);
+      wrong = lowest-none lists list _ (g .wrong);
     }
 
-module _ (E : Engine) (wanted lists : ℕ) (links : E .Links) where
+module _ (E : Engine) (lists : ℕ) (links : E .Links) where
   -- a walk that ends well goes on to the next list, and any other is a fault
   pub gather-goes : (list : ℕ) (e : Entry) (es : List Entry) (met : List ℕ) (g : Gathered) → endsWell (livePath E links met e) e ≡ true
-      → gatherAll E wanted lists links list (e ∷ es) met g
-      ≡ gatherAll E wanted lists links (suc list) es (markAll met (livePath E links met e .slots)) (gatherOne wanted lists list e (length (livePath E links met e .slots)) g)
+      → gatherAll E lists links list (e ∷ es) met g
+      ≡ gatherAll E lists links (suc list) es (markAll met (livePath E links met e .slots)) (gatherOne lists list e (length (livePath E links met e .slots)) g)
   unfolding gatherAll
   gather-goes list e es met g h = rw h
 
   pub gather-stops : (list : ℕ) (e : Entry) (es : List Entry) (met : List ℕ) (g : Gathered) → endsWell (livePath E links met e) e ≡ false
-      → gatherAll E wanted lists links list (e ∷ es) met g .gathered .fault ≡ fault 11 list (length (livePath E links met e .slots))
+      → gatherAll E lists links list (e ∷ es) met g .gathered .fault ≡ fault 11 list (length (livePath E links met e .slots))
   unfolding gatherAll
   gather-stops list e es met g h = rw h
 
   -- the walks leave a record that may be walked over
   pub gather-walkable : (list : ℕ) (es : List Entry) (met : List ℕ) (g : Gathered) → walkable (E .size links) met ≡ true
-      → walkable (E .size links) (gatherAll E wanted lists links list es met g .met) ≡ true
+      → walkable (E .size links) (gatherAll E lists links list es met g .met) ≡ true
   unfolding gatherAll
   gather-walkable list [] met g f = f
   gather-walkable list (e ∷ es) met g f =
       let path = livePath E links met e in
       let again = walkable-passed (E .size links) met (path .slots) (live-fresh E links met e) f in
       cond-ind (λ (r : Round). walkable (E .size links) (r .met) ≡ true) (endsWell path e)
-      (λ h. gather-walkable (suc list) es (markAll met (path .slots)) (gatherOne wanted lists list e (length (path .slots)) g) again)
+      (λ h. gather-walkable (suc list) es (markAll met (path .slots)) (gatherOne lists list e (length (path .slots)) g) again)
       (λ h. again)
 
   abbrev Told : ℕ → List Entry → List ℕ → Gathered → Type 0
-  Told list es met g = (cs : List (List ℕ)) × Walked E links met es cs × Sums wanted lists list met es cs g (gatherAll E wanted lists links list es met g)
+  Told list es met g = (cs : List (List ℕ)) × Walked E links met es cs × Sums lists list met es cs g (gatherAll E lists links list es met g)
 
   module _ (L : Lawful E) where
     -- where no fault is found there are chains
     pub gather-told : (list : ℕ) (es : List Entry) (met : List ℕ) (g : Gathered) → list + length es ≤ lists → ((y : ℕ) → seen met y ≤ 1)
-        → gatherAll E wanted lists links list es met g .gathered .fault .rule ≡ 0
-        → (cs : List (List ℕ)) × Walked E links met es cs × Sums wanted lists list met es cs g (gatherAll E wanted lists links list es met g)
+        → gatherAll E lists links list es met g .gathered .fault .rule ≡ 0
+        → (cs : List (List ℕ)) × Walked E links met es cs × Sums lists list met es cs g (gatherAll E lists links list es met g)
     gather-told list [] met g b u h = (
       [],
       record {
@@ -213,38 +179,38 @@ module _ (E : Engine) (wanted lists : ℕ) (links : E .Links) where
         inside = λ y p. absurd (not-suc-le-zero p);
         once = λ y. omega (arith, u y);
       },
-      no-lists E wanted lists list links met g,
+      no-lists E lists list links met g,
     )
     gather-told list (e ∷ es) met g b u h =
         go (endsWell (livePath E links met e) e) refl
-        (λ v k. gather-told (suc list) es (markAll met (livePath E links met e .slots)) (gatherOne wanted lists list e (length (livePath E links met e .slots)) g) (omega arith) v k)
+        (λ v k. gather-told (suc list) es (markAll met (livePath E links met e .slots)) (gatherOne lists list e (length (livePath E links met e .slots)) g) (omega arith) v k)
       where
         xs : List ℕ
         xs = livePath E links met e .slots
 
         go : (w : Bool) → endsWell (livePath E links met e) e ≡ w
-            → (((y : ℕ) → seen (markAll met xs) y ≤ 1) → gatherAll E wanted lists links (suc list) es (markAll met xs) (gatherOne wanted lists list e (length xs) g) .gathered .fault .rule ≡ 0
-            → Told (suc list) es (markAll met xs) (gatherOne wanted lists list e (length xs) g))
+            → (((y : ℕ) → seen (markAll met xs) y ≤ 1) → gatherAll E lists links (suc list) es (markAll met xs) (gatherOne lists list e (length xs) g) .gathered .fault .rule ≡ 0
+            → Told (suc list) es (markAll met xs) (gatherOne lists list e (length xs) g))
             → Told list (e ∷ es) met g
         go false q r = absurd (omega (arith, ap (λ f. f .rule) (gather-stops list e es met g q)))
         go true q r =
             more q (r (λ y. omega (arith, live-fresh E links met e .marks y, live-fresh E links met e .once y)) (sym (ap (λ (z : Round). z .gathered .fault .rule) (gather-goes list e es met g q)) ∙ h))
           where
-            more : endsWell (livePath E links met e) e ≡ true → Told (suc list) es (markAll met xs) (gatherOne wanted lists list e (length xs) g) → Told list (e ∷ es) met g
+            more : endsWell (livePath E links met e) e ≡ true → Told (suc list) es (markAll met xs) (gatherOne lists list e (length xs) g) → Told list (e ∷ es) met g
             more q (cs, W, S) =
                 let (o, t) = and-both (livePath E links met e .ok) (eqb (lastOr nullSlot xs) (e .tail)) q in
                 let F = live-fresh E links met e in
                 let (hd, lv) = live-only E links met e L o in (
                   xs ∷ cs,
                   walked-more E links met (markAll met xs) e es xs cs (F .marks) (record { head = hd; tail = sym (eqb-true (lastOr nullSlot xs) (e .tail) t) }) lv (F .inside) W,
-                  subst (λ (z : Round). Sums wanted lists list met (e ∷ es) (xs ∷ cs) g z) (sym (gather-goes list e es met g q))
-                      (sums-more wanted lists list met e es xs cs g _ (markAll met xs) (omega arith) (F .marks) S),
+                  subst (λ (z : Round). Sums lists list met (e ∷ es) (xs ∷ cs) g z) (sym (gather-goes list e es met g q))
+                      (sums-more lists list met e es xs cs g _ (markAll met xs) (omega arith) (F .marks) S),
                 )
 
     -- where there are chains no fault is found
     pub gather-tells : (list : ℕ) (es : List Entry) (cs : List (List ℕ)) (met : List ℕ) (g : Gathered) → list + length es ≤ lists → walkable (E .size links) met ≡ true → Walked E links met es cs
-        → Sums wanted lists list met es cs g (gatherAll E wanted lists links list es met g)
-    gather-tells list [] [] met g b f W = no-lists E wanted lists list links met g
+        → Sums lists list met es cs g (gatherAll E lists links list es met g)
+    gather-tells list [] [] met g b f W = no-lists E lists list links met g
     gather-tells list [] (xs ∷ cs) met g b f W = absurd (omega (arith, W .chained .lists))
     gather-tells list (e ∷ es) [] met g b f W = absurd (omega (arith, W .chained .lists))
     gather-tells list (e ∷ es) (xs ∷ cs) met g b f W =
@@ -257,8 +223,8 @@ module _ (E : Engine) (wanted lists : ℕ) (links : E .Links) where
         let q : endsWell (livePath E links met e) e ≡ true = rw path (eq-eqb (lastOr 0 xs) (e .tail) (sym (holds .tail))) in
         let again : walkable (E .size links) (markAll met xs) ≡ true =
         walkable-passed (E .size links) met xs (subst (λ (z : Path). Passes (E .size links) met (z .slots)) path (live-fresh E links met e)) f in
-        let S = gather-tells (suc list) es cs (markAll met xs) (gatherOne wanted lists list e (length xs) g) (omega arith) again (walked-less E links met (markAll met xs) e es xs cs marked W) in
+        let S = gather-tells (suc list) es cs (markAll met xs) (gatherOne lists list e (length xs) g) (omega arith) again (walked-less E links met (markAll met xs) e es xs cs marked W) in
         let goes = gather-goes list e es met g q
-        ∙ ap (λ (z : Path). gatherAll E wanted lists links (suc list) es (markAll met (z .slots)) (gatherOne wanted lists list e (length (z .slots)) g)) path in
-        subst (λ (z : Round). Sums wanted lists list met (e ∷ es) (xs ∷ cs) g z) (sym goes)
-        (sums-more wanted lists list met e es xs cs g _ (markAll met xs) (omega arith) marked S)
+        ∙ ap (λ (z : Path). gatherAll E lists links (suc list) es (markAll met (z .slots)) (gatherOne lists list e (length (z .slots)) g)) path in
+        subst (λ (z : Round). Sums lists list met (e ∷ es) (xs ∷ cs) g z) (sym goes)
+        (sums-more lists list met e es xs cs g _ (markAll met xs) (omega arith) marked S)

@@ -15,7 +15,7 @@ use Rattle.chains.specs.Chain.{firstOr, lastOr}
 use Rattle.shapes.specs.Met.{seen}
 use Rattle.shapes.specs.Walk.{Path, walkable, walkFrom, Passes}
 use Rattle.shapes.specs.declared.Gathered.{Gathered}
-use Rattle.shapes.specs.Faults.{fault, noFault, lowestUnmet, spareFault, idleFault}
+use Rattle.shapes.specs.Faults.{fault, noFault, lowestUnmet, countFault, spareFault, idleFault}
 use Rattle.engines.specs.Engine.{Engine}
 use Rattle.engines.specs.Laws.{Lawful}
 use Rattle.engines.specs.FirstFault.{Distinct}
@@ -75,30 +75,44 @@ module _ (E : Engine) (links : E .Links) (values met : List ℕ) (free : Free) w
 
 -- ---- the stages after it
 
-module _ (met : List ℕ) (size lists : ℕ) (g : Gathered) (free unwiped : ℕ) where
-  pub stage-12 : idleFault met size lists g false free unwiped ≡ fault 12 0 free
+module _ (met : List ℕ) (size lists : ℕ) (g : Gathered) (free unwiped stored : ℕ) where
+  pub stage-12 : idleFault met size lists g false free unwiped stored ≡ fault 12 0 free
   unfolding idleFault
   stage-12 = refl
 
-  pub stage-13 : g .live + free + 1 ≢ size → idleFault met size lists g true free unwiped ≡ fault 13 0 (lowestUnmet met 1 (size - 1))
+  pub stage-13 : g .live + free + 1 ≢ size → idleFault met size lists g true free unwiped stored ≡ fault 13 0 (lowestUnmet met 1 (size - 1))
   unfolding idleFault
   stage-13 n = rw (ne-eqb _ _ n)
 
   module _ (all : g .live + free + 1 ≡ size) where
-    pub stage-14 : unwiped ≢ nullSlot → idleFault met size lists g true free unwiped ≡ fault 14 0 unwiped
+    pub stage-14 : unwiped ≢ nullSlot → idleFault met size lists g true free unwiped stored ≡ fault 14 0 unwiped
     unfolding idleFault
     stage-14 n = rw (eq-eqb _ _ all, ne-eqb _ _ n)
 
     module _ (clean : unwiped ≡ nullSlot) where
-      pub stage-over : g .over ≢ lists → idleFault met size lists g true free unwiped ≡ fault 15 (g .over) 0
+      pub stage-over : g .over ≢ lists → idleFault met size lists g true free unwiped stored ≡ fault 15 (g .over) 0
       unfolding idleFault spareFault
       stage-over n = rw (eq-eqb _ _ all, eq-eqb _ _ clean, ne-eqb _ _ n)
 
       module _ (short : g .over ≡ lists) where
-        pub stage-short : free < g .lacks → idleFault met size lists g true free unwiped ≡ fault 15 lists 0
+        pub stage-short : free < g .lacks → idleFault met size lists g true free unwiped stored ≡ fault 15 lists 0
         unfolding idleFault spareFault
         stage-short h = rw (eq-eqb _ _ all, eq-eqb _ _ clean, eq-eqb _ _ short, lt-leb _ _ h)
 
-        pub stage-fine : g .lacks ≤ free → idleFault met size lists g true free unwiped ≡ noFault
-        unfolding idleFault spareFault
-        stage-fine h = rw (eq-eqb _ _ all, eq-eqb _ _ clean, eq-eqb _ _ short, le-leb _ _ h)
+        module _ (enough : g .lacks ≤ free) where
+          counted : idleFault met size lists g true free unwiped stored ≡ countFault lists (g .wrong) stored free
+          unfolding idleFault spareFault
+          counted = rw (eq-eqb _ _ all, eq-eqb _ _ clean, eq-eqb _ _ short, le-leb _ _ enough)
+
+          pub stage-wrong : g .wrong ≢ lists → idleFault met size lists g true free unwiped stored ≡ fault 16 (g .wrong) 0
+          unfolding countFault
+          stage-wrong n = counted ∙ rw (ne-eqb _ _ n)
+
+          module _ (right : g .wrong ≡ lists) where
+            pub stage-free : stored ≢ free → idleFault met size lists g true free unwiped stored ≡ fault 16 lists 0
+            unfolding countFault
+            stage-free n = counted ∙ rw (eq-eqb _ _ right, ne-eqb _ _ n)
+
+            pub stage-fine : stored ≡ free → idleFault met size lists g true free unwiped stored ≡ noFault
+            unfolding countFault
+            stage-fine e = counted ∙ rw (eq-eqb _ _ right, eq-eqb _ _ e)

@@ -48,8 +48,10 @@ module _ {E : Engine} (L : Lawful E) {links : E .Links} {values : List ℕ} {es 
       → e .share ≡ entryAt es l .share
       → length xs ≤ e .limit
       → lacks es (s .chains) + (entryAt es l .share - length xs) ≤ length fs + (entryAt es l .share - length (chainAt s l))
+      → e .length ≡ length xs
+      → free′ .count ≡ length fs
       → Sound E links′ values′ (set es l e) free′ (put s l xs fs)
-  sound-put b nl moved same H w v0 sh lim sp =
+  sound-put b nl moved same H w v0 sh lim sp many free-many =
       record {
         fit = record { even = H .even; same = H .same; size = rw nl (S .fit .size) };
         lists = length-set (s .chains) l xs ∙ S .lists ∙ sym (length-set es l e);
@@ -64,6 +66,8 @@ module _ {E : Engine} (L : Lawful E) {links : E .Links} {values : List ℕ} {es 
         nullValue = v0;
         short = λ k c. at-each k c (λ d x. length x ≤ d .limit) lim (λ j i. S .short k (rw (length-set es l e) at c));
         spare = omega (arith, lacks-set es (s .chains) l e xs (S .lists) b sh);
+        counted = λ k c. at-each k c (λ d x. d .length ≡ length x) many (λ j i. S .counted k j);
+        freeCounted = free-many;
       }
     where
       bc : l < length (s .chains)

@@ -17,11 +17,13 @@ pub mod Tells
 pub mod Stages
 pub mod Within
 pub mod Kept
+pub mod Counted
 pub mod Steps
 pub mod Clearing
 pub mod Reading
 pub mod Fresh
 pub mod When
+pub mod Stored
 pub mod Outcomes
 pub mod Looking
 pub mod OnList

@@ -14,7 +14,7 @@ use Rattle.chains.proofs.Cover.{full-once, once-full}
 use Rattle.shapes.specs.Met.{isMetOf, seen}
 use Rattle.shapes.specs.Walk.{Lowest}
 use Rattle.shapes.specs.Faults.{lowestUnmet}
-use Rattle.engines.specs.FirstFault.{Distinct, LowestOver}
+use Rattle.engines.specs.FirstFault.{Distinct, LowestOver, LowestMiscounted}
 use Rattle.engines.proofs.Leads.{Knows}
 
 module _ {size : ℕ} {slots : List ℕ} (d : Distinct size slots) (some : 0 < size) where
@@ -93,4 +93,12 @@ over-one {a = a} {b = b} A B = go (decLt a b) (decLt b a)
     go : Dec (a < b) → Dec (b < a) → a ≡ b
     go (yes h) k = absurd (omega (arith, B .lowest a h, A .over))
     go (no h) (yes k) = absurd (omega (arith, A .lowest b k, B .over))
+    go (no h) (no k) = omega arith
+
+pub miscounted-one : {es : List Entry} {cs : List (List ℕ)} {a b : ℕ} → LowestMiscounted es cs a → LowestMiscounted es cs b → a ≡ b
+miscounted-one {a = a} {b = b} A B = go (decLt a b) (decLt b a)
+  where
+    go : Dec (a < b) → Dec (b < a) → a ≡ b
+    go (yes h) k = absurd (A .wrong (B .lowest a h))
+    go (no h) (yes k) = absurd (B .wrong (A .lowest b k))
     go (no h) (no k) = omega arith

@@ -7,7 +7,7 @@ use Prim.Native.Nat.{ℕ, _≤_, _<_}
 use native.Mathlib.Omega.{arith}
 use native.Mathlib.Decide.{ℕ-discrete, decLt}
 use lib.Dec.{leb, eqb}
-use lib.ListN.{length}
+use lib.ListN.{length, take}
 use borrow.Author.Tests.{eqb-true, eqb-false, eq-eqb, ne-eqb}
 use Rattle.books.specs.declared.Length.{Length}
 use Rattle.books.specs.Place.{Place, noPlace, placeIn}
@@ -21,7 +21,7 @@ use Rattle.shapes.specs.declared.Found.{Found}
 use Rattle.shapes.specs.Faults.{fault, noFault, placeOf, placeFor}
 use Rattle.shapes.specs.Moves.{Move, check, askLength, pushBack, pushFront, popBack, popFront, readForward, readBackward, clear}
 use Rattle.shapes.specs.Numbers.{Test, test, firstThat, decided}
-use Rattle.shapes.specs.Shape.{Shape}
+use Rattle.shapes.specs.Shape.{Shape, storedLacks}
 use Rattle.shapes.specs.Tests.{ReadLeft, pushOwnTests, popOwnTests, readOwnTests}
 use Rattle.shapes.proofs.Numbers.{decided-refused, decided-done}
 use Rattle.engines.specs.Engine.{Engine}
@@ -50,12 +50,12 @@ own-below (t ∷ ts) p = cond-ind (λ n. n < 9) (t .applies) (λ e. p .1) (λ e.
 
 -- ---- what every call does: 1, the rule that is first broken, or a number of its own
 
-module _ {E : Engine} (L : Lawful E) (links : E .Links) (values : List ℕ) (b : AnyBook) (wanted : ℕ) (us : List Test) (own : OwnTests us) where
+module _ {E : Engine} (L : Lawful E) (links : E .Links) (values : List ℕ) (b : AnyBook) (us : List Test) (own : OwnTests us) where
   abbrev first : Fault
-  first = checkFound E wanted links values b .fault
+  first = checkFound E links values b .fault
 
   abbrev number : ℕ
-  number = firstThat (checkTests E links values b wanted ++ us)
+  number = firstThat (checkTests E links values b ++ us)
 
   -- the three ways that a call can go
   data Way : Type 0 where
@@ -66,9 +66,9 @@ module _ {E : Engine} (L : Lawful E) (links : E .Links) (values : List ℕ) (b :
   way : Way
   way = go (sizesFit E links values) (eqb (first .rule) 0) refl refl
     where
-      go : (x y : Bool) → sizesFit E links values ≡ x → eqb (checkFound E wanted links values b .fault .rule) 0 ≡ y → Way
+      go : (x y : Bool) → sizesFit E links values ≡ x → eqb (checkFound E links values b .fault .rule) 0 ≡ y → Way
       go true true ex ey = whole (fits-exactly E links values .0 ex) (eqb-true _ _ ey) (rw (ex, ey) (own-below us own))
-      go true false ex ey = broken (fits-exactly E links values .0 ex) (rw (ex, ey)) (eqb-false (checkFound E wanted links values b .fault .rule) 0 ey)
+      go true false ex ey = broken (fits-exactly E links values .0 ex) (rw (ex, ey)) (eqb-false (checkFound E links values b .fault .rule) 0 ey)
       go false y ex ey = unfit (λ f. not-both (sizesFit E links values) (fits-exactly E links values .1 f) ex) (rw ex)
 
   -- `n` and `place` are what the call answers
@@ -78,7 +78,7 @@ module _ {E : Engine} (L : Lawful E) (links : E .Links) (values : List ℕ) (b :
 
     -- where the rule is named, the place is the fault's
     named : n ≡ first .rule → first .rule ≢ 0 → place ≡ placeOf first
-    named e d = refused (λ z. d (sym e ∙ z)) ∙ rw (eq-eqb (checkFound E wanted links values b .fault .rule) n (sym e))
+    named e d = refused (λ z. d (sym e ∙ z)) ∙ rw (eq-eqb (checkFound E links values b .fault .rule) n (sym e))
 
     -- with a number that is not its rule, none is
     elsewhere : n ≢ first .rule → place ≡ noPlace
@@ -86,14 +86,14 @@ module _ {E : Engine} (L : Lawful E) (links : E .Links) (values : List ℕ) (b :
       where
         go : Dec (n ≡ 0) → place ≡ noPlace
         go (yes z) = done z
-        go (no k) = refused k ∙ no-place (checkFound E wanted links values b .fault) n (λ e. d (sym e))
+        go (no k) = refused k ∙ no-place (checkFound E links values b .fault) n (λ e. d (sym e))
 
     small : (n < 9) → place ≡ noPlace
     small h = go way
       where
         go : Way → place ≡ noPlace
-        go (unfit x e) = elsewhere (λ k. not-rule (known-fault E wanted links values b) 1 (λ z. omega arith) (omega arith) (sym k ∙ given ∙ e))
-        go (broken x e d) = absurd (omega (arith, given, rule-range (known-fault E wanted links values b) d))
+        go (unfit x e) = elsewhere (λ k. not-rule (known-fault E links values b) 1 (λ z. omega arith) (omega arith) (sym k ∙ given ∙ e))
+        go (broken x e d) = absurd (omega (arith, given, rule-range (known-fault E links values b) d))
         go (whole x z l) = go-zero (ℕ-discrete n 0)
           where
             go-zero : Dec (n ≡ 0) → place ≡ noPlace
@@ -106,26 +106,26 @@ module _ {E : Engine} (L : Lawful E) (links : E .Links) (values : List ℕ) (b :
           exactly = λ k list position lo hi. (λ (e, q). found-at k list position lo e q way, λ (fit, B). given-at k list position lo fit B);
           unsound = (λ (lo, hi). broken-at lo way, λ (fit, empty). unsound-at fit empty way);
           unplaced = out-of;
-          listUnset = λ d e. list-of d e way;
+          listUnset = λ d e i. list-of d e i way;
           positionUnset = λ h. position-of h way;
         }
       where
         found-at : (k list position : ℕ) → 9 ≤ k → n ≡ k → place ≡ at list position → Way → Fit E links values × Breaks E links values b (fault k list position)
         found-at k list position lo e q (unfit x y) = absurd (omega (arith, given))
         found-at k list position lo e q (broken fit y d) =
-            let r : checkFound E wanted links values b .fault .rule ≡ k = sym y ∙ sym given ∙ e in
-            let p : placeOf (checkFound E wanted links values b .fault) ≡ at list position = sym (named (given ∙ y) d) ∙ q in
-            let whole-fault : checkFound E wanted links values b .fault ≡ fault k list position = λ i. fault (r i) (p i .list) (p i .position) in
-            (fit, fault-exactly L links values b fit wanted (fault k list position) (λ z. omega arith) .0 whole-fault)
+            let r : checkFound E links values b .fault .rule ≡ k = sym y ∙ sym given ∙ e in
+            let p : placeOf (checkFound E links values b .fault) ≡ at list position = sym (named (given ∙ y) d) ∙ q in
+            let whole-fault : checkFound E links values b .fault ≡ fault k list position = λ i. fault (r i) (p i .list) (p i .position) in
+            (fit, fault-exactly L links values b fit (fault k list position) (λ z. omega arith) .0 whole-fault)
         found-at k list position lo e q (whole x y z) = absurd (omega (arith, given))
 
         given-at : (k list position : ℕ) → 9 ≤ k → Fit E links values → Breaks E links values b (fault k list position) → (n ≡ k) × (place ≡ at list position)
         given-at k list position lo fit B = go way
           where
-            f : checkFound E wanted links values b .fault ≡ fault k list position
-            f = breaks-found L links values b fit wanted B
+            f : checkFound E links values b .fault ≡ fault k list position
+            f = breaks-found L links values b fit B
 
-            r : checkFound E wanted links values b .fault .rule ≡ k
+            r : checkFound E links values b .fault .rule ≡ k
             r = ap (λ (x : Fault). x .rule) f
 
             go : Way → (n ≡ k) × (place ≡ at list position)
@@ -135,36 +135,36 @@ module _ {E : Engine} (L : Lawful E) (links : E .Links) (values : List ℕ) (b :
 
         broken-at : 9 ≤ n → Way → Fit E links values × (((s : Shape) × SoundBook E links values b s) → ⊥)
         broken-at lo (unfit x y) = absurd (omega (arith, given))
-        broken-at lo (broken fit y d) = (fit, λ S. d (found-exactly L wanted links values b fit .1 S))
+        broken-at lo (broken fit y d) = (fit, λ S. d (found-exactly L links values b fit .1 S))
         broken-at lo (whole x y z) = absurd (omega (arith, given))
 
-        unsound-at : Fit E links values → (((s : Shape) × SoundBook E links values b s) → ⊥) → Way → (9 ≤ n) × (n ≤ 15)
+        unsound-at : Fit E links values → (((s : Shape) × SoundBook E links values b s) → ⊥) → Way → (9 ≤ n) × (n ≤ 16)
         unsound-at fit empty (unfit x y) = absurd (x fit)
-        unsound-at fit empty (broken x y d) = let r = rule-range (known-fault E wanted links values b) d in (omega (arith, given), omega (arith, given))
-        unsound-at fit empty (whole x y z) = absurd (empty (found-exactly L wanted links values b fit .0 y))
+        unsound-at fit empty (broken x y d) = let r = rule-range (known-fault E links values b) d in (omega (arith, given), omega (arith, given))
+        unsound-at fit empty (whole x y z) = absurd (empty (found-exactly L links values b fit .0 y))
 
-        out-of : (n < 9) ⊎ (15 < n) → place ≡ noPlace
+        out-of : (n < 9) ⊎ (16 < n) → place ≡ noPlace
         out-of (inl h) = small h
         out-of (inr h) = far way
           where
             far : Way → place ≡ noPlace
             far (unfit x y) = absurd (omega (arith, given))
-            far (broken x y d) = absurd (omega (arith, given, rule-range (known-fault E wanted links values b) d))
+            far (broken x y d) = absurd (omega (arith, given, rule-range (known-fault E links values b) d))
             far (whole x y z) = absurd (omega (arith, given))
 
-        list-of : n ≢ 11 → n ≢ 15 → Way → place .list ≡ 0
-        list-of d e (unfit x y) = ap (λ (p : Place). p .list) (small (omega (arith, given)))
-        list-of d e (broken x y k) =
-            ap (λ (p : Place). p .list) (named (given ∙ y) k) ∙ list-unset (known-fault E wanted links values b) (λ r. d (given ∙ y ∙ r)) (λ r. e (given ∙ y ∙ r))
-        list-of d e (whole x y z) = ap (λ (p : Place). p .list) (small (omega (arith, given)))
+        list-of : n ≢ 11 → n ≢ 15 → n ≢ 16 → Way → place .list ≡ 0
+        list-of d e i (unfit x y) = ap (λ (p : Place). p .list) (small (omega (arith, given)))
+        list-of d e i (broken x y k) =
+            ap (λ (p : Place). p .list) (named (given ∙ y) k) ∙ list-unset (known-fault E links values b) (λ r. d (given ∙ y ∙ r)) (λ r. e (given ∙ y ∙ r)) (λ r. i (given ∙ y ∙ r))
+        list-of d e i (whole x y z) = ap (λ (p : Place). p .list) (small (omega (arith, given)))
 
-        position-of : (n < 11) ⊎ (n ≡ 15) → Way → place .position ≡ 0
+        position-of : (n < 11) ⊎ (14 < n) → Way → place .position ≡ 0
         position-of h (unfit x y) = ap (λ (p : Place). p .position) (small (omega (arith, given)))
-        position-of h (broken x y k) = ap (λ (p : Place). p .position) (named (given ∙ y) k) ∙ position-unset (known-fault E wanted links values b) (of-rule h)
+        position-of h (broken x y k) = ap (λ (p : Place). p .position) (named (given ∙ y) k) ∙ position-unset (known-fault E links values b) (of-rule h)
           where
-            of-rule : (n < 11) ⊎ (n ≡ 15) → (checkFound E wanted links values b .fault .rule < 11) ⊎ (checkFound E wanted links values b .fault .rule ≡ 15)
+            of-rule : (n < 11) ⊎ (14 < n) → (checkFound E links values b .fault .rule < 11) ⊎ (14 < checkFound E links values b .fault .rule)
             of-rule (inl i) = inl (omega (arith, given, y))
-            of-rule (inr i) = inr (sym y ∙ sym given ∙ i)
+            of-rule (inr i) = inr (omega (arith, given, y))
         position-of h (whole x y z) = ap (λ (p : Place). p .position) (small (omega (arith, given)))
 
 -- ---- the place of what was decided
@@ -180,41 +180,41 @@ module _ {E : Engine} (L : Lawful E) (st : State E) where
   abbrev four-then : ℕ → List Test → List Test
   four-then l us = test 4 (leb (st .book .lists) l) ∷ us
 
-  abbrev found : ℕ → Found
-  found l = foundOf E (st .links) (st .values) (st .book) l
+  abbrev found : Found
+  found = foundOf E (st .links) (st .values) (st .book)
 
-  told : (wanted : ℕ) (us : List Test) → OwnTests us → {n : ℕ} {place : Place} → n ≡ firstThat (checkTests E (st .links) (st .values) (st .book) wanted ++ us)
-      → (firstThat (checkTests E (st .links) (st .values) (st .book) wanted ++ us) ≢ 0 → place ≡ placeFor (found wanted .fault) (firstThat (checkTests E (st .links) (st .values) (st .book) wanted ++ us)))
-      × (firstThat (checkTests E (st .links) (st .values) (st .book) wanted ++ us) ≡ 0 → place ≡ noPlace)
+  told : (us : List Test) → OwnTests us → {n : ℕ} {place : Place} → n ≡ firstThat (checkTests E (st .links) (st .values) (st .book) ++ us)
+      → (firstThat (checkTests E (st .links) (st .values) (st .book) ++ us) ≢ 0 → place ≡ placeFor (found .fault) (firstThat (checkTests E (st .links) (st .values) (st .book) ++ us)))
+      × (firstThat (checkTests E (st .links) (st .values) (st .book) ++ us) ≡ 0 → place ≡ noPlace)
       → NamesFault E st n place
-  told wanted us own {n} {place} e (r, z) = subst (λ (k : ℕ). NamesFault E st k place) (sym e) (names L (st .links) (st .values) (st .book) wanted us own _ place refl r z)
+  told us own {n} {place} e (r, z) = subst (λ (k : ℕ). NamesFault E st k place) (sym e) (names L (st .links) (st .values) (st .book) us own _ place refl r z)
 
   pub push-names : (l : ℕ) (end : End) (value : ℕ) → NamesFault E st (pushCall E (st .links) (st .values) (st .book) l end value .number) (pushCall E (st .links) (st .values) (st .book) l end value .place)
   unfolding pushCall
   push-names l end value =
-      told l (four-then l (pushOwnTests (entryAt (st .book .entries) l) (found l .length) (found l .lacks) (found l .free))) (omega arith)
+      told (four-then l (pushOwnTests (entryAt (st .book .entries) l) (entryAt (st .book .entries) l .length) (storedLacks (take (st .book .lists) (st .book .entries))) (st .book .free .count))) (omega arith)
       (push-number E (st .links) (st .values) (st .book) l end value)
-      (decided-place _ _ (λ (r : Called E). r .place) (found l .fault) (λ k. refl) refl _)
+      (decided-place _ _ (λ (r : Called E). r .place) (found .fault) (λ k. refl) refl _)
 
   pub pop-names : (l : ℕ) (end : End) → NamesFault E st (popCall E (st .links) (st .values) (st .book) l end .number) (popCall E (st .links) (st .values) (st .book) l end .place)
   unfolding popCall
   pop-names l end =
-      told l (four-then l (popOwnTests (found l .length))) (omega arith) (pop-number E (st .links) (st .values) (st .book) l end)
-      (decided-place _ _ (λ (r : Called E). r .place) (found l .fault) (λ k. refl) refl _)
+      told (four-then l (popOwnTests (entryAt (st .book .entries) l .length))) (omega arith) (pop-number E (st .links) (st .values) (st .book) l end)
+      (decided-place _ _ (λ (r : Called E). r .place) (found .fault) (λ k. refl) refl _)
 
   pub read-names : (l : ℕ) (end : End) (buffer : List ℕ) (at : ℕ)
       → NamesFault E st (readCall E (st .links) (st .values) (st .book) l end buffer at .answer .refusal .number) (placeIn (readCall E (st .links) (st .values) (st .book) l end buffer at .answer .refusal))
   unfolding readCall
   read-names l end buffer at =
-      told l (four-then l (readOwnTests (found l .length) (length buffer) at)) (omega arith) (read-number E (st .links) (st .values) (st .book) l end buffer at)
-      (decided-place _ _ (λ (r : ReadLeft). placeIn (r .answer .refusal)) (found l .fault) (λ k. refl) refl _)
+      told (four-then l (readOwnTests (entryAt (st .book .entries) l .length) (length buffer) at)) (omega arith) (read-number E (st .links) (st .values) (st .book) l end buffer at)
+      (decided-place _ _ (λ (r : ReadLeft). placeIn (r .answer .refusal)) (found .fault) (λ k. refl) refl _)
 
-  -- 02 b): every call but setup names the first rule broken, with its place
+  -- 02 b) and c): every call but setup names the first rule broken, with its place
   pub names-fault : (m : Move) → NamesFault E st (numberOf E st m) (placeGiven E st m)
   unfolding checkCall lengthCall clearCall
-  names-fault check = told 0 [] tt (check-number E (st .links) (st .values) (st .book)) (decided-place _ _ placeIn (found 0 .fault) (λ k. refl) refl _)
+  names-fault check = told [] tt (check-number E (st .links) (st .values) (st .book)) (decided-place _ _ placeIn (found .fault) (λ k. refl) refl _)
   names-fault (askLength l) =
-      told l (four-then l []) (omega arith) (length-number E (st .links) (st .values) (st .book) l) (decided-place _ _ (λ (r : Length). placeIn (r .refusal)) (found l .fault) (λ k. refl) refl _)
+      told (four-then l []) (omega arith) (length-number E (st .links) (st .values) (st .book) l) (decided-place _ _ (λ (r : Length). placeIn (r .refusal)) (found .fault) (λ k. refl) refl _)
   names-fault (pushBack l value) = push-names l Back value
   names-fault (pushFront l value) = push-names l Front value
   names-fault (popBack l) = pop-names l Back
@@ -222,7 +222,7 @@ module _ {E : Engine} (L : Lawful E) (st : State E) where
   names-fault (readForward l buffer at) = read-names l Front buffer at
   names-fault (readBackward l buffer at) = read-names l Back buffer at
   names-fault (clear l) =
-      told l (four-then l []) (omega arith) (clear-number E (st .links) (st .values) (st .book) l) (decided-place _ _ (λ (r : Called E). r .place) (found l .fault) (λ k. refl) refl _)
+      told (four-then l []) (omega arith) (clear-number E (st .links) (st .values) (st .book) l) (decided-place _ _ (λ (r : Called E). r .place) (found .fault) (λ k. refl) refl _)
 
 -- on a pool that is not sound, two numbers with their places that are both so are the same
 pub names-one : {E : Engine} (L : Lawful E) {st : State E} {n n′ : ℕ} {place place′ : Place} → Fit E (st .links) (st .values) → (((s : Shape) × SoundBook E (st .links) (st .values) (st .book) s) → ⊥)
@@ -237,9 +237,9 @@ names-one L {st} {n} {n′} {place} {place′} fit empty P Q =
 
 -- on a sound pool no place is named
 pub names-none : {E : Engine} {st : State E} {n : ℕ} {place : Place} {s : Shape} → SoundBook E (st .links) (st .values) (st .book) s → NamesFault E st n place → place ≡ noPlace
-names-none {E} {st} {n} {place} {s} S P = go (decLt n 9) (decLt 15 n)
+names-none {E} {st} {n} {place} {s} S P = go (decLt n 9) (decLt 16 n)
   where
-    go : Dec (n < 9) → Dec (15 < n) → place ≡ noPlace
+    go : Dec (n < 9) → Dec (16 < n) → place ≡ noPlace
     go (yes h) k = P .unplaced (inl h)
     go (no h) (yes k) = P .unplaced (inr k)
     go (no h) (no k) = absurd (P .unsound .0 (omega arith, omega arith) .1 (s, S))

@@ -12,7 +12,7 @@ use Rattle.books.specs.declared.Entry.{Entry}
 use Rattle.books.specs.Book.{entryAt, AnyBook}
 use Rattle.shapes.specs.declared.End.{End}
 use Rattle.shapes.specs.declared.Fault.{Fault}
-use Rattle.shapes.specs.Shape.{Shape, chainAt, lacks, Room}
+use Rattle.shapes.specs.Shape.{Shape, chainAt, lacks, Room, storedLacks}
 use Rattle.books.specs.declared.Length.{Length}
 use Rattle.shapes.specs.Numbers.{Test, firstThat, decided}
 use Rattle.shapes.specs.Tests.{ReadLeft, pushOwnTests, popOwnTests, readOwnTests}
@@ -24,7 +24,7 @@ use Rattle.engines.specs.Check.{sizesFit, checkFound}
 use Rattle.engines.specs.Calls.{Called, notCalled, foundOf, listTests, pushTests, popTests, readTests, afterPush, afterPop, afterClear, checkCall, lengthCall, pushCall, popCall, clearCall, readCall}
 use Rattle.engines.specs.Done.{Refused, Pushes, Pops, Clears, Reads, ReadRefused}
 use Rattle.engines.proofs.Checked.{fits-exactly, found-exactly}
-use Rattle.engines.proofs.Found.{found-length, found-lacks, found-free, entry-is, within}
+use Rattle.engines.proofs.Found.{stored-length, stored-lacks, stored-free, entry-is, within}
 use Rattle.engines.proofs.Steps.{pushes, pops}
 use Rattle.engines.proofs.Clearing.{clears}
 use Rattle.engines.proofs.Reading.{reads}
@@ -44,7 +44,7 @@ roomy e many lacking free w z = go (eqb many (e .limit)) (leb (e .share) many) (
     go false false u ex ey eu = let d : many ≢ e .limit = eqb-false _ _ ex in (omega arith, inl (leb-false _ _ ey))
 
 -- not 5
-filled : (many : ℕ) → firstThat (popOwnTests many) ≡ 0 → 0 < many
+pub filled : (many : ℕ) → firstThat (popOwnTests many) ≡ 0 → 0 < many
 filled many z = go (eqb many 0) refl
   where
     go : (x : Bool) → eqb many 0 ≡ x → 0 < many
@@ -75,15 +75,15 @@ module _ (E : Engine) (links : E .Links) (values : List ℕ) (b : AnyBook) (l : 
 
   pub push-refused : (end : End) (value : ℕ) → pushCall E links values b l end value .number ≢ 0 → Refused E links values b (pushCall E links values b l end value)
   unfolding pushCall
-  push-refused end value = refused (pushTests E links values b l) (afterPush E links values b l end value) (foundOf E links values b l .fault) refl
+  push-refused end value = refused (pushTests E links values b l) (afterPush E links values b l end value) (foundOf E links values b .fault) refl
 
   pub pop-refused : (end : End) → popCall E links values b l end .number ≢ 0 → Refused E links values b (popCall E links values b l end)
   unfolding popCall
-  pop-refused end = refused (popTests E links values b l) (afterPop E links values b l end) (foundOf E links values b l .fault) refl
+  pop-refused end = refused (popTests E links values b l) (afterPop E links values b l end) (foundOf E links values b .fault) refl
 
   pub clear-refused : clearCall E links values b l .number ≢ 0 → Refused E links values b (clearCall E links values b l)
   unfolding clearCall
-  clear-refused = refused (listTests E links values b l) (afterClear E links values b l (foundOf E links values b l .length)) (foundOf E links values b l .fault) refl
+  clear-refused = refused (listTests E links values b l) (afterClear E links values b l (entryAt (b .entries) l .length)) (foundOf E links values b .fault) refl
 
   pub read-refused : (end : End) (buffer : List ℕ) (at : ℕ) → readCall E links values b l end buffer at .answer .refusal .number ≢ 0 → ReadRefused buffer (readCall E links values b l end buffer at)
   unfolding readCall
@@ -99,28 +99,28 @@ pub check-accepts : {E : Engine} (L : Lawful E) (links : E .Links) (values : Lis
 check-accepts {E} L links values b = (to (sizesFit E links values) (eqb rule 0) refl refl, from)
   where
     rule : ℕ
-    rule = checkFound E 0 links values b .fault .rule
+    rule = checkFound E links values b .fault .rule
 
     to : (x y : Bool) → sizesFit E links values ≡ x → eqb rule 0 ≡ y → checkCall E links values b .number ≡ 0 → (s : Shape) × SoundBook E links values b s
-    to true true ex ey z = found-exactly L 0 links values b (fits-exactly E links values .0 ex) .0 (eqb-true _ _ ey)
+    to true true ex ey z = found-exactly L links values b (fits-exactly E links values .0 ex) .0 (eqb-true _ _ ey)
     to true false ex ey z = absurd (eqb-false rule 0 ey (rw (ex, ey) at (sym (check-number E links values b) ∙ z)))
     to false y ex ey z = let k : _≡_ {A = ℕ} 1 0 = rw ex at (sym (check-number E links values b) ∙ z) in absurd (omega arith)
 
     from : ((s : Shape) × SoundBook E links values b s) → checkCall E links values b .number ≡ 0
-    from (s, S) = check-number E links values b ∙ rw (fits-exactly E links values .1 (S .pool .fit), eq-eqb _ _ (found-exactly L 0 links values b (S .pool .fit) .1 (s, S)))
+    from (s, S) = check-number E links values b ∙ rw (fits-exactly E links values .1 (S .pool .fit), eq-eqb _ _ (found-exactly L links values b (S .pool .fit) .1 (s, S)))
 
 module _ {E : Engine} (L : Lawful E) (links : E .Links) (values : List ℕ) (b : AnyBook) (l : ℕ) where
   -- where no test applies there is a sound shape with the list in it, and none of the call's own tests applies
   pub past-list : (us : List Test) → firstThat (listTests E links values b l ++ us) ≡ 0 → ((s : Shape) × SoundBook E links values b s × (l < b .lists)) × (firstThat us ≡ 0)
-  past-list us z = go (sizesFit E links values) (eqb (checkFound E l links values b .fault .rule) 0) (leb (b .lists) l) refl refl refl
+  past-list us z = go (sizesFit E links values) (eqb (checkFound E links values b .fault .rule) 0) (leb (b .lists) l) refl refl refl
     where
-      go : (x y u : Bool) → sizesFit E links values ≡ x → eqb (checkFound E l links values b .fault .rule) 0 ≡ y → leb (b .lists) l ≡ u
+      go : (x y u : Bool) → sizesFit E links values ≡ x → eqb (checkFound E links values b .fault .rule) 0 ≡ y → leb (b .lists) l ≡ u
           → ((s : Shape) × SoundBook E links values b s × (l < b .lists)) × (firstThat us ≡ 0)
       go true true true ex ey eu = let k : _≡_ {A = ℕ} 4 0 = rw (ex, ey, eu) at z in absurd (omega arith)
       go true true false ex ey eu =
-          let (s, S) = found-exactly L l links values b (fits-exactly E links values .0 ex) .0 (eqb-true _ _ ey) in
+          let (s, S) = found-exactly L links values b (fits-exactly E links values .0 ex) .0 (eqb-true _ _ ey) in
           ((s, S, leb-false _ _ eu), rw (ex, ey, eu) at z)
-      go true false u ex ey eu = absurd (eqb-false (checkFound E l links values b .fault .rule) 0 ey (rw (ex, ey) at z))
+      go true false u ex ey eu = absurd (eqb-false (checkFound E links values b .fault .rule) 0 ey (rw (ex, ey) at z))
       go false y u ex ey eu = let k : _≡_ {A = ℕ} 1 0 = rw ex at z in absurd (omega arith)
 
   -- ---- length
@@ -131,25 +131,25 @@ module _ {E : Engine} (L : Lawful E) (links : E .Links) (values : List ℕ) (b :
   length-done =
       decided-ind _ _ (λ (r : Length). r .refusal .number ≡ 0 → (s : Shape) × SoundBook E links values b s × (r .length ≡ length (chainAt s l))) (listTests E links values b l)
       (λ k z. absurd (k z))
-      (λ k z. let ((s, S, below), y) = past-list [] k in (s, S, found-length L S l below))
+      (λ k z. let ((s, S, below), y) = past-list [] k in (s, S, stored-length S l below))
 
   -- ---- the pushes
 
   abbrev ownRoom : List Test
-  ownRoom = pushOwnTests (entryAt (b .entries) l) (foundOf E links values b l .length) (foundOf E links values b l .lacks) (foundOf E links values b l .free)
+  ownRoom = pushOwnTests (entryAt (b .entries) l) (entryAt (b .entries) l .length) (storedLacks (take (b .lists) (b .entries))) (b .free .count)
 
-  has-room : (s : Shape) → SoundBook E links values b s → l < b .lists → firstThat ownRoom ≡ 0 → Room (take (b .lists) (b .entries)) s l
+  pub has-room : (s : Shape) → SoundBook E links values b s → l < b .lists → firstThat ownRoom ≡ 0 → Room (take (b .lists) (b .entries)) s l
   has-room s S below y =
-      let (u, v) = roomy (entryAt (b .entries) l) (foundOf E links values b l .length) (foundOf E links values b l .lacks) (foundOf E links values b l .free) (omega (arith, found-length L S l below, within S l below)) y in
+      let (u, v) = roomy (entryAt (b .entries) l) (entryAt (b .entries) l .length) (storedLacks (take (b .lists) (b .entries))) (b .free .count) (omega (arith, stored-length S l below, within S l below)) y in
       record {
-        under = omega (arith, found-length L S l below, ap (λ (e : Entry). e .limit) (entry-is S l below));
+        under = omega (arith, stored-length S l below, ap (λ (e : Entry). e .limit) (entry-is S l below));
         enough = left v;
       }
     where
-      left : (foundOf E links values b l .length < entryAt (b .entries) l .share) ⊎ (foundOf E links values b l .lacks < foundOf E links values b l .free)
+      left : (entryAt (b .entries) l .length < entryAt (b .entries) l .share) ⊎ (storedLacks (take (b .lists) (b .entries)) < b .free .count)
           → (length (chainAt s l) < entryAt (take (b .lists) (b .entries)) l .share) ⊎ (lacks (take (b .lists) (b .entries)) (s .chains) < length (s .idle))
-      left (inl k) = inl (omega (arith, found-length L S l below, ap (λ (e : Entry). e .share) (entry-is S l below)))
-      left (inr k) = inr (omega (arith, found-lacks L S l, found-free L S l))
+      left (inl k) = inl (omega (arith, stored-length S l below, ap (λ (e : Entry). e .share) (entry-is S l below)))
+      left (inr k) = inr (omega (arith, stored-lacks S, stored-free S))
 
   module _ (end : End) (value : ℕ) where
     pub push-done : pushCall E links values b l end value .number ≡ 0 → (s : Shape) × SoundBook E links values b s × Pushes E links values b end l value s (pushCall E links values b l end value)
@@ -167,8 +167,8 @@ module _ {E : Engine} (L : Lawful E) (links : E .Links) (values : List ℕ) (b :
     pop-done =
         decided-ind _ _ (λ (r : Called E). r .number ≡ 0 → (s : Shape) × SoundBook E links values b s × Pops E links values b end l s r) (popTests E links values b l)
         (λ k z. absurd (k z))
-        (λ k z. let ((s, S, below), y) = past-list (popOwnTests (foundOf E links values b l .length)) k in
-        (s, S, pops L S l below end (omega (arith, found-length L S l below, filled (foundOf E links values b l .length) y))))
+        (λ k z. let ((s, S, below), y) = past-list (popOwnTests (entryAt (b .entries) l .length)) k in
+        (s, S, pops L S l below end (omega (arith, stored-length S l below, filled (entryAt (b .entries) l .length) y))))
 
   -- ---- clear
 
@@ -178,7 +178,7 @@ module _ {E : Engine} (L : Lawful E) (links : E .Links) (values : List ℕ) (b :
       decided-ind _ _ (λ (r : Called E). r .number ≡ 0 → (s : Shape) × SoundBook E links values b s × Clears E links values b l s r) (listTests E links values b l)
       (λ k z. absurd (k z))
       (λ k z. let ((s, S, below), y) = past-list [] k in
-      (s, S, subst (λ (n : ℕ). Clears E links values b l s (afterClear E links values b l n)) (sym (found-length L S l below)) (clears L S l below)))
+      (s, S, subst (λ (n : ℕ). Clears E links values b l s (afterClear E links values b l n)) (sym (stored-length S l below)) (clears L S l below)))
 
   -- ---- the reads
 
@@ -191,9 +191,9 @@ module _ {E : Engine} (L : Lawful E) (links : E .Links) (values : List ℕ) (b :
         decided-ind _ _ (λ (r : ReadLeft). r .answer .refusal .number ≡ 0 → (s : Shape) × SoundBook E links values b s × (at + length (chainAt s l) ≤ length buffer) × Reads end values l buffer at s r)
         (readTests E links values b l (length buffer) at)
         (λ k z. absurd (k z))
-        (λ k z. let ((s, S, below), y) = past-list (readOwnTests (foundOf E links values b l .length) (length buffer) at) k in
-        let (p, q) = placed (foundOf E links values b l .length) (length buffer) at y in
-        let h : at + length (chainAt s l) ≤ length buffer = omega (arith, found-length L S l below) in
+        (λ k z. let ((s, S, below), y) = past-list (readOwnTests (entryAt (b .entries) l .length) (length buffer) at) k in
+        let (p, q) = placed (entryAt (b .entries) l .length) (length buffer) at y in
+        let h : at + length (chainAt s l) ≤ length buffer = omega (arith, stored-length S l below) in
         (s, S, h, reads L S l below end buffer at h))
 
     pub read-done : readCall E links values b l end buffer at .answer .refusal .number ≡ 0 → (s : Shape) × SoundBook E links values b s × Reads end values l buffer at s (readCall E links values b l end buffer at)

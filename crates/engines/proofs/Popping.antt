@@ -1,5 +1,6 @@
 -- Clear leaves what popping the front, call by call, until the list is empty leaves, on any engine.
 use mathlib.Core.Path.{_≡_, refl, sym, ap, subst, _∙_}
+use mathlib.Core.Bool.{true}
 use mathlib.Core.List.{List, [], _∷_}
 use Prim.Native.Nat.{ℕ, zero, suc, _<_}
 use native.Mathlib.Omega.{arith}
@@ -14,11 +15,13 @@ use Rattle.shapes.proofs.Numbers.{decided-ind}
 use Rattle.engines.specs.Engine.{Engine, Step}
 use Rattle.engines.specs.Sound.{SoundBook, Held}
 use Rattle.engines.specs.Laws.{Lawful}
+use Rattle.engines.specs.Counted.{countedPop}
 use Rattle.engines.specs.Reads.{clearOn}
 use Rattle.engines.specs.Calls.{Called, stepped, popTests, listTests, popCall, clearCall}
 use Rattle.engines.specs.Moves.{State, left, numberOf, after, PoppedOut, ends, goes}
 use Rattle.engines.proofs.Shape.{unique-book}
-use Rattle.engines.proofs.Found.{listed, found-length}
+use Rattle.engines.proofs.Found.{listed, stored-length}
+use Rattle.engines.proofs.Counted.{leaves-counted, pop-counted}
 use Rattle.engines.proofs.Steps.{book-held}
 use Rattle.engines.proofs.Outcomes.{past-list, pop-done}
 use Rattle.engines.proofs.Exactly.{pop-five, pop-zero}
@@ -32,7 +35,7 @@ set-set (e ∷ es) (suc l) a c = ap (λ r. e ∷ r) (set-set es l a c)
 module _ {E : Engine} (l : ℕ) (st : State E) where
   -- a step at the front
   abbrev gone : Step (E .Links)
-  gone = E .pop Front (st .links) (st .values) (entryAt (st .book .entries) l) (st .book .free)
+  gone = countedPop E Front (st .links) (st .values) (entryAt (st .book .entries) l) (st .book .free)
 
   -- the state with the list and the cells as a step leaves them
   abbrev stepped-to : Step (E .Links) → State E
@@ -56,7 +59,7 @@ module _ {E : Engine} (L : Lawful E) (l : ℕ) where
         let (t, T, P) = pop-done L (st .links) (st .values) (st .book) l Front z in (
           put t l (P .rest) (P .slot ∷ t .idle),
           P .sound,
-          omega (arith, P .listed, P .book .sameCount),
+          omega (arith, P .listed, P .book .sameLists),
           ap length (getD-set-same (t .chains) l (P .rest) [] (omega (arith, T .pool .lists, listed T l below)))
               ∙ omega (arith, ap (λ (u : Shape). length (chainAt u l)) (unique-book L S T), ap length (P .last)),
         )
@@ -69,7 +72,10 @@ module _ {E : Engine} (L : Lawful E) (l : ℕ) where
         go : (xs : List ℕ) → Held E (st .links) (st .values) (entryAt (st .book .entries) l) (st .book .free) xs (s .idle) → length xs ≡ suc n
             → emptied l st (suc n) ≡ clearOn E n (gone l st .links) (gone l st .values) (gone l st .entry) (gone l st .free)
         go [] H h = absurd (omega arith)
-        go (x ∷ xs) H h = rw (L .pop Front (st .links) (st .values) (entryAt (st .book .entries) l) (st .book .free) x xs (s .idle) H .done)
+        go (x ∷ xs) H h =
+            let p = pop-counted L Front (st .links) (st .values) (entryAt (st .book .entries) l) (st .book .free) x xs (s .idle) H in
+            let d : gone l st .done ≡ true = ap (λ (o : Step (E .Links)). o .done) p ∙ leaves-counted L Front (st .links) (st .values) (entryAt (st .book .entries) l) (st .book .free) x xs (s .idle) H .done in
+            rw d
 
     -- emptying goes on from the state after the pop
     goes-on : numberOf E st (popFront l) ≡ 0 → stepped-to l (after E st (popFront l)) (emptied l (after E st (popFront l)) n) ≡ stepped-to l st (emptied l st (suc n))
@@ -110,4 +116,4 @@ unfolding clearCall
 clear-pops {E} L st l =
     decided-ind _ _ (λ (r : Called E). r .number ≡ 0 → PoppedOut E l st (left r)) (listTests E (st .links) (st .values) (st .book) l)
     (λ k z. absurd (k z))
-    (λ k z. let ((s, S, below), y) = past-list L (st .links) (st .values) (st .book) l [] k in pops-out L l _ st S below (sym (found-length L S l below)))
+    (λ k z. let ((s, S, below), y) = past-list L (st .links) (st .values) (st .book) l [] k in pops-out L l _ st S below (sym (stored-length S l below)))

@@ -222,21 +222,21 @@ module _ {E : Engine} (L : Lawful E) (links : E .Links) (es : List Entry) where
 
   module _ (some : 0 < E .size links) where
     -- where they give a fault a list halts
-    pub round-halts : (wanted : ℕ) → roundOf E wanted links es .gathered .fault .rule ≢ 0 → (l : ℕ) × (cs : List (List ℕ)) × (xs : List ℕ) × (next : ℕ) × Halts E links [] es l cs xs next
-    round-halts wanted n =
-        gather-halts E L wanted (length es) links 0 es (nothingMet (E .size links)) (gatheredNone (length es)) [] (nothing-seen (E .size links))
+    pub round-halts : roundOf E links es .gathered .fault .rule ≢ 0 → (l : ℕ) × (cs : List (List ℕ)) × (xs : List ℕ) × (next : ℕ) × Halts E links [] es l cs xs next
+    round-halts n =
+        gather-halts E L (length es) links 0 es (nothingMet (E .size links)) (gatheredNone (length es)) [] (nothing-seen (E .size links))
         (record { inside = λ y h. absurd (not-suc-le-zero h); once = λ y. omega arith }) (nothing-walkable (E .size links) some) refl n
 
     pub first-halts : {l i : ℕ} → FirstWrongLive E links es l i → (cs : List (List ℕ)) × (xs : List ℕ) × (next : ℕ) × Halts E links [] es l cs xs next × (i ≡ length xs)
-    first-halts {l} {i} F = go (ℕ-discrete (roundOf E 0 links es .gathered .fault .rule) 0)
+    first-halts {l} {i} F = go (ℕ-discrete (roundOf E links es .gathered .fault .rule) 0)
       where
         at : (k : ℕ) (cs : List (List ℕ)) (xs : List ℕ) (next : ℕ) → Halts E links [] es k cs xs next → (cs : List (List ℕ)) × (xs : List ℕ) × (next : ℕ) × Halts E links [] es l cs xs next × (i ≡ length xs)
         at k cs xs next H = let (e, p) = live-first-one F (halts-first H) in (cs, xs, next, rw e H, p)
 
-        go : Dec (roundOf E 0 links es .gathered .fault .rule ≡ 0) → (cs : List (List ℕ)) × (xs : List ℕ) × (next : ℕ) × Halts E links [] es l cs xs next × (i ≡ length xs)
-        go (yes e) = let (cs, C, D) = round-told L 0 links es some e in absurd (lists-right cs C D l (F .below) i (F .here))
+        go : Dec (roundOf E links es .gathered .fault .rule ≡ 0) → (cs : List (List ℕ)) × (xs : List ℕ) × (next : ℕ) × Halts E links [] es l cs xs next × (i ≡ length xs)
+        go (yes e) = let (cs, C, D) = round-told L links es some e in absurd (lists-right cs C D l (F .below) i (F .here))
         go (no n) =
-            let (k, cs, xs, next, H) = round-halts 0 n in at k cs xs next H
+            let (k, cs, xs, next, H) = round-halts n in at k cs xs next H
 
     -- rule 11: the two say the same
     pub live-positions : (l i : ℕ) → FirstWrongLive E links es l i ↔ ((cs : List (List ℕ)) × (xs : List ℕ) × (next : ℕ) × Halts E links [] es l cs xs next × (i ≡ length xs))
@@ -244,10 +244,10 @@ module _ {E : Engine} (L : Lawful E) (links : E .Links) (es : List Entry) where
 
     module _ (free : Free) where
       pub first-idle-halts : {i : ℕ} → FirstWrongIdle E links es free i → (cs : List (List ℕ)) × (xs : List ℕ) × (next : ℕ) × IdleHalts E links es free cs xs next × (i ≡ length xs)
-      first-idle-halts {i} F = go (ℕ-discrete (roundOf E 0 links es .gathered .fault .rule) 0)
+      first-idle-halts {i} F = go (ℕ-discrete (roundOf E links es .gathered .fault .rule) 0)
         where
           met : List ℕ
-          met = roundOf E 0 links es .met
+          met = roundOf E links es .met
 
           xs : List ℕ
           xs = walkFrom (E .idleOnward links) (E .idleFits links) (E .size links) met (free .head) .slots
@@ -264,13 +264,13 @@ module _ {E : Engine} (L : Lawful E) (links : E .Links) (es : List Entry) where
               let H : IdleHalts E links es free cs xs next = record { chained = C; leads = l; distinct = A; broken = b } in
               (cs, xs, next, H, idle-first-one free F (halts-idle free H))
 
-          go : Dec (roundOf E 0 links es .gathered .fault .rule ≡ 0) → (cs : List (List ℕ)) × (xs : List ℕ) × (next : ℕ) × IdleHalts E links es free cs xs next × (i ≡ length xs)
-          go (no n) = let (k, cs, ys, next, H) = round-halts 0 n in absurd (F .lists k (H .below) (length ys) (halts-first H .here))
+          go : Dec (roundOf E links es .gathered .fault .rule ≡ 0) → (cs : List (List ℕ)) × (xs : List ℕ) × (next : ℕ) × IdleHalts E links es free cs xs next × (i ≡ length xs)
+          go (no n) = let (k, cs, ys, next, H) = round-halts n in absurd (F .lists k (H .below) (length ys) (halts-first H .here))
           go (yes e) =
-              let (cs, C, D) = round-told L 0 links es some e in
-              let K = chained-known L 0 links es some C D in
+              let (cs, C, D) = round-told L links es some e in
+              let K = chained-known L links es some C D in
               at cs C (passes-distinct (E .size links) met (joinedUp cs) K xs D (walk-fresh (E .idleOnward links) (E .idleFits links) (E .size links) met (free .head)))
-              (walk-stands (E .idleOnward links) (E .idleFits links) (E .size links) met (joinedUp cs) K (round-walkable L 0 links es some) (free .head))
+              (walk-stands (E .idleOnward links) (E .idleFits links) (E .size links) met (joinedUp cs) K (round-walkable L links es some) (free .head))
 
       -- rule 12: the two say the same
       pub idle-positions : (i : ℕ) → FirstWrongIdle E links es free i ↔ ((cs : List (List ℕ)) × (xs : List ℕ) × (next : ℕ) × IdleHalts E links es free cs xs next × (i ≡ length xs))

@@ -4,13 +4,13 @@ use mathlib.Core.Bool.{Bool, true, not, _&&_}
 use mathlib.Core.List.{List, [], _∷_, _++_}
 use Prim.Native.Nat.{ℕ}
 use lib.Dec.{leb, eqb}
-use lib.ListN.{length}
+use lib.ListN.{length, take}
 use Rattle.books.specs.Book.{entryAt}
 use Rattle.books.specs.Table.{mayGive}
 use Rattle.books.proofs.Tests.{and-both, cond-ind}
 use Rattle.shapes.specs.declared.End.the-variants.{Front, Back}
 use Rattle.shapes.specs.declared.Fault.{Fault}
-use Rattle.shapes.specs.declared.Found.{Found}
+use Rattle.shapes.specs.Shape.{storedLacks}
 use Rattle.shapes.specs.Numbers.{Test, test, firstThat}
 use Rattle.shapes.specs.Tests.{pushOwnTests, popOwnTests, readOwnTests}
 use Rattle.shapes.specs.Moves.{Move, check, askLength, pushBack, pushFront, popBack, popFront, readForward, readBackward, clear}
@@ -20,7 +20,7 @@ use Rattle.engines.specs.Calls.{setupTests, checkTests, foundOf}
 use Rattle.engines.specs.Moves.{State, numberOf}
 use Rattle.engines.specs.Rows.{rowOf, EveryRow}
 use Rattle.engines.proofs.Fresh.{setup-number}
-use Rattle.engines.proofs.Ruled.{KnownFault, known-0, known-9, known-10, known-11, known-12, known-13, known-14, known-15, known-fault}
+use Rattle.engines.proofs.Ruled.{KnownFault, known-0, known-9, known-10, known-11, known-12, known-13, known-14, known-15, known-16, known-fault}
 use Rattle.engines.proofs.When.{check-number, length-number, push-number, pop-number, clear-number, read-number}
 
 -- the row has the number of each test, and 0
@@ -38,7 +38,7 @@ in-row call (t ∷ ts) h =
 numbered : (call : ℕ) (ts : List Test) {number : ℕ} → number ≡ firstThat ts → all-give call ts ≡ true → mayGive call number ≡ true
 numbered call ts e h = ap (mayGive call) e ∙ in-row call ts h
 
--- the rows of the nine calls have 0 and 9 to 15
+-- the rows of the nine calls have 0 and 9 to 16
 rule-in : {f : Fault} → KnownFault f
     → (mayGive 1 (f .rule) ≡ true) × (mayGive 2 (f .rule) ≡ true) × (mayGive 3 (f .rule) ≡ true) × (mayGive 4 (f .rule) ≡ true) × (mayGive 5 (f .rule) ≡ true) × (mayGive 6 (f .rule) ≡ true) × (mayGive 7 (f .rule) ≡ true) × (mayGive 8 (f .rule) ≡ true) × (mayGive 9 (f .rule) ≡ true)
 unfolding mayGive
@@ -50,44 +50,45 @@ rule-in (known-12 p) = (refl, refl, refl, refl, refl, refl, refl, refl, refl)
 rule-in (known-13 p) = (refl, refl, refl, refl, refl, refl, refl, refl, refl)
 rule-in (known-14 p) = (refl, refl, refl, refl, refl, refl, refl, refl, refl)
 rule-in (known-15 l) = (refl, refl, refl, refl, refl, refl, refl, refl, refl)
+rule-in (known-16 l) = (refl, refl, refl, refl, refl, refl, refl, refl, refl)
 
 -- the tests of the check, and then others
-checked : (call : ℕ) (E : Engine) (st : State E) (wanted : ℕ) (us : List Test) {number : ℕ} → number ≡ firstThat (checkTests E (st .links) (st .values) (st .book) wanted ++ us)
-    → mayGive call 1 ≡ true → mayGive call (checkFound E wanted (st .links) (st .values) (st .book) .fault .rule) ≡ true → all-give call us ≡ true → mayGive call number ≡ true
-checked call E st wanted us e one broken own =
+checked : (call : ℕ) (E : Engine) (st : State E) (us : List Test) {number : ℕ} → number ≡ firstThat (checkTests E (st .links) (st .values) (st .book) ++ us)
+    → mayGive call 1 ≡ true → mayGive call (checkFound E (st .links) (st .values) (st .book) .fault .rule) ≡ true → all-give call us ≡ true → mayGive call number ≡ true
+checked call E st us e one broken own =
     ap (mayGive call) e
     ∙ cond-ind (λ n. mayGive call n ≡ true) (not (sizesFit E (st .links) (st .values))) (λ h. one)
-    (λ h. cond-ind (λ n. mayGive call n ≡ true) (not (eqb (checkFound E wanted (st .links) (st .values) (st .book) .fault .rule) 0)) (λ i. broken) (λ i. in-row call us own))
+    (λ h. cond-ind (λ n. mayGive call n ≡ true) (not (eqb (checkFound E (st .links) (st .values) (st .book) .fault .rule) 0)) (λ i. broken) (λ i. in-row call us own))
 
 module _ (E : Engine) (st : State E) (l : ℕ) where
   -- then 4, and what the call itself tests
   abbrev four-then : List Test → List Test
   four-then us = test 4 (leb (st .book .lists) l) ∷ us
 
-  abbrev found : Found
-  found = foundOf E (st .links) (st .values) (st .book) l
+  abbrev many : ℕ
+  many = entryAt (st .book .entries) l .length
 
   abbrev own-push : List Test
-  own-push = four-then (pushOwnTests (entryAt (st .book .entries) l) (found .length) (found .lacks) (found .free))
+  own-push = four-then (pushOwnTests (entryAt (st .book .entries) l) many (storedLacks (take (st .book .lists) (st .book .entries))) (st .book .free .count))
 
   abbrev own-pop : List Test
-  own-pop = four-then (popOwnTests (found .length))
+  own-pop = four-then (popOwnTests (many))
 
   abbrev own-read : List ℕ → ℕ → List Test
-  own-read buffer at = four-then (readOwnTests (found .length) (length buffer) at)
+  own-read buffer at = four-then (readOwnTests (many) (length buffer) at)
 
 -- each of the nine calls
 nine-rows : (E : Engine) (st : State E) (m : Move) → mayGive (rowOf m) (numberOf E st m) ≡ true
 unfolding mayGive
-nine-rows E st check = checked 1 E st 0 [] (check-number E (st .links) (st .values) (st .book)) refl (rule-in (known-fault E 0 (st .links) (st .values) (st .book)) .0) refl
-nine-rows E st (askLength l) = checked 2 E st l (four-then E st l []) (length-number E (st .links) (st .values) (st .book) l) refl (rule-in (known-fault E l (st .links) (st .values) (st .book)) .1) refl
-nine-rows E st (pushBack l value) = checked 3 E st l (own-push E st l) (push-number E (st .links) (st .values) (st .book) l Back value) refl (rule-in (known-fault E l (st .links) (st .values) (st .book)) .2) refl
-nine-rows E st (pushFront l value) = checked 4 E st l (own-push E st l) (push-number E (st .links) (st .values) (st .book) l Front value) refl (rule-in (known-fault E l (st .links) (st .values) (st .book)) .3) refl
-nine-rows E st (popBack l) = checked 5 E st l (own-pop E st l) (pop-number E (st .links) (st .values) (st .book) l Back) refl (rule-in (known-fault E l (st .links) (st .values) (st .book)) .4) refl
-nine-rows E st (popFront l) = checked 6 E st l (own-pop E st l) (pop-number E (st .links) (st .values) (st .book) l Front) refl (rule-in (known-fault E l (st .links) (st .values) (st .book)) .5) refl
-nine-rows E st (readForward l buffer at) = checked 7 E st l (own-read E st l buffer at) (read-number E (st .links) (st .values) (st .book) l Front buffer at) refl (rule-in (known-fault E l (st .links) (st .values) (st .book)) .6) refl
-nine-rows E st (readBackward l buffer at) = checked 8 E st l (own-read E st l buffer at) (read-number E (st .links) (st .values) (st .book) l Back buffer at) refl (rule-in (known-fault E l (st .links) (st .values) (st .book)) .7) refl
-nine-rows E st (clear l) = checked 9 E st l (four-then E st l []) (clear-number E (st .links) (st .values) (st .book) l) refl (rule-in (known-fault E l (st .links) (st .values) (st .book)) .8) refl
+nine-rows E st check = checked 1 E st [] (check-number E (st .links) (st .values) (st .book)) refl (rule-in (known-fault E (st .links) (st .values) (st .book)) .0) refl
+nine-rows E st (askLength l) = checked 2 E st (four-then E st l []) (length-number E (st .links) (st .values) (st .book) l) refl (rule-in (known-fault E (st .links) (st .values) (st .book)) .1) refl
+nine-rows E st (pushBack l value) = checked 3 E st (own-push E st l) (push-number E (st .links) (st .values) (st .book) l Back value) refl (rule-in (known-fault E (st .links) (st .values) (st .book)) .2) refl
+nine-rows E st (pushFront l value) = checked 4 E st (own-push E st l) (push-number E (st .links) (st .values) (st .book) l Front value) refl (rule-in (known-fault E (st .links) (st .values) (st .book)) .3) refl
+nine-rows E st (popBack l) = checked 5 E st (own-pop E st l) (pop-number E (st .links) (st .values) (st .book) l Back) refl (rule-in (known-fault E (st .links) (st .values) (st .book)) .4) refl
+nine-rows E st (popFront l) = checked 6 E st (own-pop E st l) (pop-number E (st .links) (st .values) (st .book) l Front) refl (rule-in (known-fault E (st .links) (st .values) (st .book)) .5) refl
+nine-rows E st (readForward l buffer at) = checked 7 E st (own-read E st l buffer at) (read-number E (st .links) (st .values) (st .book) l Front buffer at) refl (rule-in (known-fault E (st .links) (st .values) (st .book)) .6) refl
+nine-rows E st (readBackward l buffer at) = checked 8 E st (own-read E st l buffer at) (read-number E (st .links) (st .values) (st .book) l Back buffer at) refl (rule-in (known-fault E (st .links) (st .values) (st .book)) .7) refl
+nine-rows E st (clear l) = checked 9 E st (four-then E st l []) (clear-number E (st .links) (st .values) (st .book) l) refl (rule-in (known-fault E (st .links) (st .values) (st .book)) .8) refl
 
 pub every-row : (E : Engine) → EveryRow E
 unfolding mayGive

@@ -30,8 +30,8 @@ use Rattle.engines.proofs.Idle.{idle-fresh}
 
 -- ---- one list at a time, as a loop takes them
 
-module _ (E : Engine) (wanted lists : ℕ) (links : E .Links) (met : List ℕ) (es : List Entry) (k : ℕ) (g : Gathered) where
-  pub gather-done : length es ≤ k → round g met ≡ gatherAll E wanted lists links k (drop k es) met g
+module _ (E : Engine) (lists : ℕ) (links : E .Links) (met : List ℕ) (es : List Entry) (k : ℕ) (g : Gathered) where
+  pub gather-done : length es ≤ k → round g met ≡ gatherAll E lists links k (drop k es) met g
   unfolding gatherAll
   gather-done h = rw (drop-of-length-le es h)
 
@@ -41,12 +41,12 @@ module _ (E : Engine) (wanted lists : ℕ) (links : E .Links) (met : List ℕ) (
     walk-told = rw (told, W .ok, W .last)
 
     pub gather-next : t ≡ true
-        → gatherAll E wanted lists links (k + 1) (drop (k + 1) es) met′ (gatherOne wanted lists k (entryAt es k) (w .length) g) ≡ gatherAll E wanted lists links k (drop k es) met g
+        → gatherAll E lists links (k + 1) (drop (k + 1) es) met′ (gatherOne lists k (entryAt es k) (w .length) g) ≡ gatherAll E lists links k (drop k es) met g
     gather-next h =
         rw (drop-cons es k zeroEntry b, W .marked, W .counted, add-one)
-        (sym (gather-goes E wanted lists links k (entryAt es k) (drop (suc k) es) met g (walk-told ∙ h)))
+        (sym (gather-goes E lists links k (entryAt es k) (drop (suc k) es) met g (walk-told ∙ h)))
 
-    pub gather-halt : t ≡ false → round (gatherFault k (w .length) g) met′ ≡ gatherAll E wanted lists links k (drop k es) met g
+    pub gather-halt : t ≡ false → round (gatherFault k (w .length) g) met′ ≡ gatherAll E lists links k (drop k es) met g
     unfolding gatherAll
     gather-halt h = rw (drop-cons es k zeroEntry b, W .marked, W .counted, walk-told ∙ h)
 
@@ -94,16 +94,16 @@ nothing-place size e h = omega (arith, ap length e, length-replicate size zero)
 pub nothing-again : (size : ℕ) {met : List ℕ} → met ≡ nothingMet size → unmarked met ≡ nothingMet size
 nothing-again size e = ap unmarked e ∙ cleared size
 
-module _ (E : Engine) (wanted lists : ℕ) (links : E .Links) where
+module _ (E : Engine) (lists : ℕ) (links : E .Links) where
   gather-live : (list : ℕ) (es : List Entry) (met : List ℕ) (g : Gathered)
-      → gatherAll E wanted lists links list es met g .gathered .live + unmet (gatherAll E wanted lists links list es met g .met) ≤ g .live + unmet met
+      → gatherAll E lists links list es met g .gathered .live + unmet (gatherAll E lists links list es met g .met) ≤ g .live + unmet met
   unfolding gatherAll
   gather-live list [] met g = omega arith
   gather-live list (e ∷ es) met g =
       let path = livePath E links met e in
       let fewer = pass-unmet met (path .slots) (live-fresh E links met e .once) in
       cond-ind (λ (r : Round). r .gathered .live + unmet (r .met) ≤ g .live + unmet met) (endsWell path e)
-      (λ h. omega (arith, gather-live (suc list) es (markAll met (path .slots)) (gatherOne wanted lists list e (length (path .slots)) g)))
+      (λ h. omega (arith, gather-live (suc list) es (markAll met (path .slots)) (gatherOne lists list e (length (path .slots)) g)))
       (λ h. omega arith)
 
 -- the idle chain's slots are among those that were left
@@ -112,23 +112,23 @@ idle-at-most E links values met free = omega (arith, pass-unmet met (idlePath E 
 
 -- ---- what the whole pool gives, from what its stages give
 
-pub pool-null : (E : Engine) (wanted : ℕ) (links : E .Links) (values : List ℕ) (es : List Entry) (free : Free) → nullSlotZero E links values ≡ false → faulty (fault 10 0 0) ≡ poolFound E wanted links values es free
+pub pool-null : (E : Engine) (links : E .Links) (values : List ℕ) (es : List Entry) (free : Free) → nullSlotZero E links values ≡ false → faulty (fault 10 0 0) ≡ poolFound E links values es free
 unfolding poolFound
-pool-null E wanted links values es free z = rw z
+pool-null E links values es free z = rw z
 
-module _ (E : Engine) (wanted : ℕ) (links : E .Links) (es : List Entry) {lists : ℕ} {met met′ : List ℕ} {g : Gathered} (many : length es ≡ lists) (none : met ≡ nothingMet (E .size links)) (got : round g met′ ≡ gatherAll E wanted lists links 0 es met (gatheredNone lists)) where
-  all-got : round g met′ ≡ gatherAll E wanted (length es) links 0 es (nothingMet (E .size links)) (gatheredNone (length es))
+module _ (E : Engine) (links : E .Links) (es : List Entry) {lists : ℕ} {met met′ : List ℕ} {g : Gathered} (many : length es ≡ lists) (none : met ≡ nothingMet (E .size links)) (got : round g met′ ≡ gatherAll E lists links 0 es met (gatheredNone lists)) where
+  all-got : round g met′ ≡ gatherAll E (length es) links 0 es (nothingMet (E .size links)) (gatheredNone (length es))
   all-got = rw (many, ← none) got
 
   pub pool-live : g .live + unmet met′ ≤ E .size links
   pool-live =
-      subst (λ (r : Round). r .gathered .live + unmet (r .met) ≤ E .size links) (sym all-got) (omega (arith, gather-live E wanted (length es) links 0 es (nothingMet (E .size links)) (gatheredNone (length es)), nothing-unmet (E .size links)))
+      subst (λ (r : Round). r .gathered .live + unmet (r .met) ≤ E .size links) (sym all-got) (omega (arith, gather-live E (length es) links 0 es (nothingMet (E .size links)) (gatheredNone (length es)), nothing-unmet (E .size links)))
 
   module _ (values : List ℕ) (free : Free) (zero-slot : nullSlotZero E links values ≡ true) where
-    pub pool-fault : g .fault .rule ≢ 0 → faulty (g .fault) ≡ poolFound E wanted links values es free
+    pub pool-fault : g .fault .rule ≢ 0 → faulty (g .fault) ≡ poolFound E links values es free
     unfolding poolFound
     pool-fault h = rw (zero-slot, ← all-got, ne-eqb (g .fault .rule) 0 h)
 
-    pub pool-idle-found : {found : Found} → g .fault .rule ≡ 0 → found ≡ idleFound (E .size links) values free lists (round g met′) (idlePath E links values met′ free) → found ≡ poolFound E wanted links values es free
+    pub pool-idle-found : {found : Found} → g .fault .rule ≡ 0 → found ≡ idleFound (E .size links) values free lists (round g met′) (idlePath E links values met′ free) → found ≡ poolFound E links values es free
     unfolding poolFound
     pool-idle-found h e = rw (zero-slot, ← all-got, eq-eqb (g .fault .rule) 0 h, many) e

@@ -25,11 +25,13 @@ use Rattle.shapes.specs.Changes.{OtherEntries, OtherLists, withList}
 use Rattle.engines.specs.Engine.{Engine, Step}
 use Rattle.engines.specs.Sound.{Sound, SoundBook, Held}
 use Rattle.engines.specs.Laws.{Joins, Leaves, Lawful}
-use Rattle.engines.specs.Calls.{afterPush, afterPop}
+use Rattle.engines.specs.Counted.{withCounts, countedPush, countedPop}
+use Rattle.engines.specs.Calls.{stepped, afterPush, afterPop}
 use Rattle.engines.specs.Done.{Pushes, Pops}
 use Rattle.engines.proofs.Shape.{at-most, two-parts}
-use Rattle.engines.proofs.Found.{listed, entry-is, within}
+use Rattle.engines.proofs.Found.{listed, entry-is, within, stored-length, stored-free, some-slots}
 use Rattle.engines.proofs.Kept.{sound-held, sound-put}
+use Rattle.engines.proofs.Counted.{joins-counted, push-counted, leaves-counted, pop-counted}
 
 -- ---- sequences
 
@@ -89,8 +91,8 @@ module _ {E : Engine} {links : E .Links} {values : List ℕ} {b : AnyBook} {s : 
   book-set e free sh li =
       record {
         samePlaces = refl;
-        sameCount = refl;
-        sameLength = length-set (b .entries) l e;
+        sameLists = refl;
+        sameEntries = length-set (b .entries) l e;
         others = λ k d. getD-set-other (b .entries) l k e zeroEntry d;
         share = rw (entry-set e) sh;
         limit = rw (entry-set e) li;
@@ -128,7 +130,7 @@ module _ {E : Engine} (L : Lawful E) {links : E .Links} {values : List ℕ} {b :
   pushes end value room = go (s .idle) refl (room-slot S l below room)
     where
       r : Step (E .Links)
-      r = E .push end links values e (b .free) value
+      r = withCounts (e .length + 1) (b .free .count - 1) (E .push end links values e (b .free) value)
 
       xs : List ℕ
       xs = chainAt s l
@@ -136,7 +138,8 @@ module _ {E : Engine} (L : Lawful E) {links : E .Links} {values : List ℕ} {b :
       go : (fs : List ℕ) → s .idle ≡ fs → 0 < length fs → Pushes E links values b end l value s (afterPush E links values b l end value)
       go [] i h = absurd (not-suc-le-zero h)
       go (f ∷ fs) i h =
-          record {
+          subst (λ (o : Step (E .Links)). Pushes E links values b end l value s (stepped E links values b l 0 o)) (sym made)
+          (record {
             listed = below;
             number = refl;
             unplaced = refl;
@@ -153,20 +156,27 @@ module _ {E : Engine} (L : Lawful E) {links : E .Links} {values : List ℕ} {b :
                 (rw (J .cells) (getD-set-other values f 0 value 0 (λ k. omega (arith, f-in .0)) ∙ S .pool .nullValue))
                 (J .share ∙ ap (λ (d : Entry). d .share) (sym (entry-is S l below)))
                 (omega (arith, length-joined end f xs, J .limit, room .under, ap (λ (d : Entry). d .limit) (entry-is S l below)))
-                (spare (room .enough)));
+                (spare (room .enough))
+                (omega (arith, stored-length S l below, length-joined end f xs))
+                (omega (arith, stored-free S, ap length i)));
             holds = rw (J .cells) (contents-joined end (set values f value) f xs ∙ (λ j. joined end (getD-set-same values f value 0 (omega (arith, f-in .1, H .same)) j) (contents-set values f value xs apart j)));
             otherLists = rw (J .cells) (others-kept S l below (set values f value)
                 (λ y p q. getD-set-other values f y value 0 (λ k. omega (arith, ap (count y) i, ap (λ z. hit z f) k, hit-same f))));
             cells = J .cells;
             frame = J .frame;
             book = book-set S l below (r .entry) (r .free) (J .share) (J .limit);
-          }
+            longer = ap (λ (d : Entry). d .length) (entry-set S l below (r .entry));
+            fewer = omega (arith, stored-free S, ap length i);
+          })
         where
           H : Held E links values e (b .free) xs (f ∷ fs)
           H = subst (λ (zs : List ℕ). Held E links values e (b .free) xs zs) i (book-held S l below)
 
           J : Joins E end f links values e xs fs r value
-          J = L .push end links values e (b .free) f value xs fs H
+          J = joins-counted L end links values e (b .free) f xs fs value H
+
+          made : countedPush E end links values e (b .free) value ≡ r
+          made = push-counted L end links values e (b .free) f xs fs value H
 
           f-in : (0 < f) × (f < E .size links)
           f-in = H .slots f (omega (arith, count-append f xs (f ∷ fs), hit-same f))
@@ -185,11 +195,12 @@ module _ {E : Engine} (L : Lawful E) {links : E .Links} {values : List ℕ} {b :
   pops end h = let (x, xs, at) = end-of end (chainAt s l) h in go x xs at
     where
       r : Step (E .Links)
-      r = E .pop end links values e (b .free)
+      r = withCounts (e .length - 1) (b .free .count + 1) (E .pop end links values e (b .free))
 
       go : (x : ℕ) (xs : List ℕ) → chainAt s l ≡ joined end x xs → Pops E links values b end l s (afterPop E links values b l end)
       go x xs at =
-          record {
+          subst (λ (o : Step (E .Links)). Pops E links values b end l s (stepped E links values b l (o .value) o)) (sym made)
+          (record {
             listed = below;
             number = refl;
             unplaced = refl;
@@ -205,7 +216,9 @@ module _ {E : Engine} (L : Lawful E) {links : E .Links} {values : List ℕ} {b :
                 (rw (G .cells) (getD-set-other values x 0 wipeWord 0 (λ k. omega (arith, x-in .0)) ∙ S .pool .nullValue))
                 (G .share ∙ ap (λ (d : Entry). d .share) (sym (entry-is S l below)))
                 (omega (arith, within S l below, G .limit, one-longer))
-                (omega (arith, S .pool .spare, one-longer, ap (λ n. entryAt es l .share - n) one-longer)));
+                (omega (arith, S .pool .spare, one-longer, ap (λ n. entryAt es l .share - n) one-longer))
+                (omega (arith, stored-length S l below, one-longer))
+                (omega (arith, stored-free S)));
             holds = ap (contents values) at ∙ contents-joined end values x xs ∙ (λ j. joined end (sym (G .value) j) (kept j));
             wiped = rw (G .cells) (getD-set-same values x wipeWord 0 (omega (arith, x-in .1, H .same)));
             otherLists = rw (G .cells) (others-kept S l below (set values x wipeWord)
@@ -213,19 +226,24 @@ module _ {E : Engine} (L : Lawful E) {links : E .Links} {values : List ℕ} {b :
             cells = G .cells;
             frame = G .frame;
             book = book-set S l below (r .entry) (r .free) (G .share) (G .limit);
-          }
+            shorter = omega (arith, ap (λ (d : Entry). d .length) (entry-set S l below (r .entry)), stored-length S l below, one-longer);
+            more = refl;
+          })
         where
           H : Held E links values e (b .free) (joined end x xs) (s .idle)
           H = subst (λ (zs : List ℕ). Held E links values e (b .free) zs (s .idle)) at (book-held S l below)
 
           G : Leaves E end x links values e xs (s .idle) r
-          G = L .pop end links values e (b .free) x xs (s .idle) H
+          G = leaves-counted L end links values e (b .free) x xs (s .idle) H
 
           moved : (y : ℕ) → count y (chainAt s l) ≡ hit y x + count y xs
           moved y = ap (count y) at ∙ count-joined end x xs y
 
           one-longer : length (chainAt s l) ≡ suc (length xs)
           one-longer = ap length at ∙ length-joined end x xs
+
+          made : countedPop E end links values e (b .free) ≡ r
+          made = pop-counted L end links values e (b .free) x xs (s .idle) H
 
           x-in : (0 < x) × (x < E .size links)
           x-in = H .slots x (omega (arith, count-append x (joined end x xs) (s .idle), count-joined end x xs x, hit-same x))

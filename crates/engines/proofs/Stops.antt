@@ -68,19 +68,19 @@ module _ (E : Engine) (links : E .Links) where
     first-distinct H =
         distinct-part (taken ++ c) ((taken ++ c) ++ (joinedUp cs ++ slots)) (λ y. omega (arith, count-append y (taken ++ c) (joinedUp cs ++ slots))) (halts-less H .distinct)
 
-module _ (E : Engine) (L : Lawful E) (wanted lists : ℕ) (links : E .Links) where
+module _ (E : Engine) (L : Lawful E) (lists : ℕ) (links : E .Links) where
   abbrev Stopped : List Entry → List ℕ → Type 0
   Stopped es taken =
       (l : ℕ) × (cs : List (List ℕ)) × (xs : List ℕ) × (next : ℕ) × Halts E links taken es l cs xs next
 
   -- where the walks give a fault a chain is broken
   pub gather-halts : (list : ℕ) (es : List Entry) (met : List ℕ) (g : Gathered) (taken : List ℕ) → Knows (E .size links) met taken → Distinct (E .size links) taken
-      → walkable (E .size links) met ≡ true → g .fault .rule ≡ 0 → gatherAll E wanted lists links list es met g .gathered .fault .rule ≢ 0
+      → walkable (E .size links) met ≡ true → g .fault .rule ≡ 0 → gatherAll E lists links list es met g .gathered .fault .rule ≢ 0
       → (l : ℕ) × (cs : List (List ℕ)) × (xs : List ℕ) × (next : ℕ) × Halts E links taken es l cs xs next
-  gather-halts list [] met g taken kn d w z n = absurd (n (ap (λ f. f .rule) (no-lists E wanted lists list links met g .fault) ∙ z))
+  gather-halts list [] met g taken kn d w z n = absurd (n (ap (λ f. f .rule) (no-lists E lists list links met g .fault) ∙ z))
   gather-halts list (e ∷ es) met g taken kn d w z n =
       go (endsWell (livePath E links met e) e) refl
-      (λ a b c m. gather-halts (suc list) es (markAll met (livePath E links met e .slots)) (gatherOne wanted lists list e (length (livePath E links met e .slots)) g) (taken ++ livePath E links met e .slots) a b c z m)
+      (λ a b c m. gather-halts (suc list) es (markAll met (livePath E links met e .slots)) (gatherOne lists list e (length (livePath E links met e .slots)) g) (taken ++ livePath E links met e .slots) a b c z m)
     where
       c : List ℕ
       c = livePath E links met e .slots
@@ -123,31 +123,31 @@ module _ (E : Engine) (L : Lawful E) (wanted lists : ℕ) (links : E .Links) whe
 
       go : (a : Bool) → endsWell (livePath E links met e) e ≡ a
           → (Knows (E .size links) (markAll met c) (taken ++ c) → Distinct (E .size links) (taken ++ c) → walkable (E .size links) (markAll met c) ≡ true
-          → gatherAll E wanted lists links (suc list) es (markAll met c) (gatherOne wanted lists list e (length c) g) .gathered .fault .rule ≢ 0
+          → gatherAll E lists links (suc list) es (markAll met c) (gatherOne lists list e (length c) g) .gathered .fault .rule ≢ 0
           → Stopped es (taken ++ c))
           → Stopped (e ∷ es) taken
       go false q r = stop q (walk-stands (E .onward Front links) (E .fits links) (E .size links) met taken kn w (e .head))
       go true q r =
           more q (r (passes-known (E .size links) met taken kn c F) apart (walkable-passed (E .size links) met c F w)
-          (λ k. n (ap (λ (z : Round). z .gathered .fault .rule) (gather-goes E wanted lists links list e es met g q) ∙ k)))
+          (λ k. n (ap (λ (z : Round). z .gathered .fault .rule) (gather-goes E lists links list e es met g q) ∙ k)))
 
   -- where a chain is broken the walks give that fault
   pub gather-halted : (list : ℕ) (es : List Entry) (met : List ℕ) (g : Gathered) (taken : List ℕ) (l : ℕ) (cs : List (List ℕ)) (xs : List ℕ) (next : ℕ) → Knows (E .size links) met taken
       → walkable (E .size links) met ≡ true → Halts E links taken es l cs xs next
-      → gatherAll E wanted lists links list es met g .gathered .fault ≡ fault 11 (list + l) (length xs)
+      → gatherAll E lists links list es met g .gathered .fault ≡ fault 11 (list + l) (length xs)
   gather-halted list [] met g taken l cs xs next kn w H = absurd (not-suc-le-zero (H .below))
   gather-halted list (e ∷ es) met g taken zero (c ∷ cs) xs next kn w H = absurd (omega (arith, H .chained .lists))
   gather-halted list (e ∷ es) met g taken (suc l) [] xs next kn w H = absurd (omega (arith, H .chained .lists))
   gather-halted list (e ∷ es) met g taken zero [] xs next kn w H = go (H .broken)
     where
       stops : (ok : Bool) → livePath E links met e ≡ record { ok = ok; slots = xs } → ok && eqb (lastOr nullSlot xs) (e .tail) ≡ false
-          → gatherAll E wanted lists links list (e ∷ es) met g .gathered .fault ≡ fault 11 (list + 0) (length xs)
+          → gatherAll E lists links list (e ∷ es) met g .gathered .fault ≡ fault 11 (list + 0) (length xs)
       stops ok path q =
-          gather-stops E wanted lists links list e es met g (ap (λ (p : Path). endsWell p e) path ∙ q)
+          gather-stops E lists links list e es met g (ap (λ (p : Path). endsWell p e) path ∙ q)
           ∙ ap (λ (p : Path). fault 11 list (length (p .slots))) path ∙ ap (λ k. fault 11 k (length xs)) (omega arith)
 
       go : BadSlot (E .fits links) (E .size links) (taken ++ xs) (lastOr nullSlot xs) next ⊎ (next ≡ nullSlot) × (lastOr nullSlot xs ≢ e .tail)
-          → gatherAll E wanted lists links list (e ∷ es) met g .gathered .fault ≡ fault 11 (list + 0) (length xs)
+          → gatherAll E lists links list (e ∷ es) met g .gathered .fault ≡ fault 11 (list + 0) (length xs)
       go (inl b) = stops false (walk-stops (E .onward Front links) (E .fits links) (E .size links) met taken kn w (e .head) xs (H .distinct) next (H .leads) b) refl
       go (inr (z, t)) =
           stops true (walk-arrives (E .onward Front links) (E .fits links) (E .size links) met taken kn w (e .head) xs (H .distinct) (rw z at (H .leads)))
@@ -160,7 +160,7 @@ module _ (E : Engine) (L : Lawful E) (wanted lists : ℕ) (links : E .Links) whe
       (distinct-inside (E .size links) met taken kn c d) (distinct-room (E .size links) met taken kn c d) in
       let F : Passes (E .size links) met c = subst (λ (z : Path). Passes (E .size links) met (z .slots)) path (live-fresh E links met e) in
       let q : endsWell (livePath E links met e) e ≡ true = rw path (eq-eqb (lastOr 0 c) (e .tail) (sym (holds .tail))) in
-      ap (λ (r : Round). r .gathered .fault) (gather-goes E wanted lists links list e es met g q)
-      ∙ ap (λ (z : Path). gatherAll E wanted lists links (suc list) es (markAll met (z .slots)) (gatherOne wanted lists list e (length (z .slots)) g) .gathered .fault) path
-      ∙ gather-halted (suc list) es (markAll met c) (gatherOne wanted lists list e (length c) g) (taken ++ c) l cs xs next (passes-known (E .size links) met taken kn c F) (walkable-passed (E .size links) met c F w) (halts-less E links H)
+      ap (λ (r : Round). r .gathered .fault) (gather-goes E lists links list e es met g q)
+      ∙ ap (λ (z : Path). gatherAll E lists links (suc list) es (markAll met (z .slots)) (gatherOne lists list e (length (z .slots)) g) .gathered .fault) path
+      ∙ gather-halted (suc list) es (markAll met c) (gatherOne lists list e (length c) g) (taken ++ c) l cs xs next (passes-known (E .size links) met taken kn c F) (walkable-passed (E .size links) met c F w) (halts-less E links H)
       ∙ ap (λ k. fault 11 k (length xs)) (omega arith)

@@ -21,7 +21,7 @@ use Rattle.engines.specs.FirstFault.{Breaks}
 use Rattle.engines.specs.Check.{sizesFit, checkFound, lookOf}
 use Rattle.engines.specs.Look.{Tells}
 use Rattle.engines.proofs.Checked.{fits-exactly, found-exactly}
-use Rattle.engines.proofs.Found.{found-fine, found-lacks, found-free, found-beyond, found-length}
+use Rattle.engines.proofs.Found.{found-fine, found-lacks}
 use Rattle.engines.proofs.FirstFault.{fault-exactly, sound-unbroken}
 use Rattle.engines.proofs.Ruled.{known-fault, not-rule}
 
@@ -33,47 +33,41 @@ other-number d e = absurd (d (ap (λ (x : Refusal). x .number) e))
 pub named-one : {f g : Fault} → naming f ≡ naming g → f ≡ g
 named-one {f} {g} e = λ i. fault (e i .number) (e i .list) (e i .position)
 
-module _ {E : Engine} (L : Lawful E) (wanted : ℕ) (links : E .Links) (values : List ℕ) (b : AnyBook) where
+module _ {E : Engine} (L : Lawful E) (links : E .Links) (values : List ℕ) (b : AnyBook) where
   abbrev rule : ℕ
-  rule = checkFound E wanted links values b .fault .rule
+  rule = checkFound E links values b .fault .rule
 
   no : {A : Type 0} {m n : ℕ} → m ≡ n → m ≢ n → A
   no e d = absurd (d e)
 
-  pub look-tells : Tells E wanted links values b (lookOf E wanted links values b)
+  pub look-tells : Tells E links values b (lookOf E links values b)
   unfolding lookOf
   look-tells = go (sizesFit E links values) (eqb rule 0) refl refl
     where
-      go : (x y : Bool) → sizesFit E links values ≡ x → eqb rule 0 ≡ y → Tells E wanted links values b (lookOf E wanted links values b)
+      go : (x y : Bool) → sizesFit E links values ≡ x → eqb rule 0 ≡ y → Tells E links values b (lookOf E links values b)
       go true true ex ey =
           let f = fits-exactly E links values .0 ex in
-          let (s, S) = found-exactly L wanted links values b f .0 (eqb-true _ _ ey) in
+          let (s, S) = found-exactly L links values b f .0 (eqb-true _ _ ey) in
           rw (ex, ey)
           (record {
             one = (other-number (λ k. omega arith), λ n. absurd (n f));
             named = λ g d u. (λ e. absurd (d (sym (ap (λ (x : Refusal). x .number) e))), λ (h, B). absurd (sound-unbroken L links values b f S B));
             fine = (λ e. (s, S), λ T. refl);
             nothing = λ d. absurd (d refl);
-            clean = λ e. found-fine L S wanted;
-            many = λ e t T below. found-length L T wanted below;
-            none = λ e h. found-beyond L S wanted h;
-            lacking = λ e t T. found-lacks L T wanted;
-            free = λ e t T. found-free L T wanted;
+            clean = λ e. found-fine L S;
+            lacking = λ e t T. found-lacks L T;
           })
       go true false ex ey =
           let f = fits-exactly E links values .0 ex in
           let some : rule ≢ 0 = eqb-false rule 0 ey in
           rw (ex, ey)
           (record {
-            one = (λ e. absurd (not-rule (known-fault E wanted links values b) 1 (λ k. omega arith) (omega arith) (ap (λ (x : Refusal). x .number) e)), λ n. absurd (n f));
-            named = λ g d u. (λ e. (f, fault-exactly L links values b f wanted g d .0 (named-one e)), λ (h, B). ap naming (fault-exactly L links values b f wanted g d .1 B));
-            fine = (λ e. absurd (some (ap (λ (x : Refusal). x .number) e)), λ S. absurd (some (found-exactly L wanted links values b f .1 S)));
+            one = (λ e. absurd (not-rule (known-fault E links values b) 1 (λ k. omega arith) (omega arith) (ap (λ (x : Refusal). x .number) e)), λ n. absurd (n f));
+            named = λ g d u. (λ e. (f, fault-exactly L links values b f g d .0 (named-one e)), λ (h, B). ap naming (fault-exactly L links values b f g d .1 B));
+            fine = (λ e. absurd (some (ap (λ (x : Refusal). x .number) e)), λ S. absurd (some (found-exactly L links values b f .1 S)));
             nothing = λ d. refl;
             clean = λ e. no e some;
-            many = λ e. no e some;
-            none = λ e. no e some;
             lacking = λ e. no e some;
-            free = λ e. no e some;
           })
       go false y ex ey =
           let unfit : Fit E links values → ⊥ = λ f. not-both (sizesFit E links values) (fits-exactly E links values .1 f) ex in
@@ -84,8 +78,5 @@ module _ {E : Engine} (L : Lawful E) (wanted : ℕ) (links : E .Links) (values :
             fine = (other-number (λ k. omega arith), λ (s, S). absurd (unfit (S .pool .fit)));
             nothing = λ d. refl;
             clean = λ e. no e (λ k. omega arith);
-            many = λ e. no e (λ k. omega arith);
-            none = λ e. no e (λ k. omega arith);
             lacking = λ e. no e (λ k. omega arith);
-            free = λ e. no e (λ k. omega arith);
           })

@@ -70,8 +70,11 @@ setup-keeps-one {E} L {places} {links} {lists} {shares} {limits} {r} {r′} P Q 
             entry-one l (omega (arith, Q .asMany)) (Q .sound) (P .sound) (omega (arith, P .asMany)) (P .share l h ∙ sym (Q .share l h)) (P .limit l h ∙ sym (Q .limit l h))
         at l h (no d) = P .sound .rules .unused l (omega (arith, P .asMany)) ∙ sym (Q .sound .rules .unused l (omega (arith, Q .asMany)))
 
+    free-count : r .book .free .count ≡ r′ .book .free .count
+    free-count = omega (arith, P .freeCount, Q .freeCount)
+
     book : r .book ≡ r′ .book
-    book = λ i. record { places = (P .samePlaces ∙ sym (Q .samePlaces)) i; lists = (P .asMany ∙ sym (Q .asMany)) i; entries = entries i; free = record { head = (P .freeHead ∙ sym (Q .freeHead)) i } }
+    book = λ i. record { places = (P .samePlaces ∙ sym (Q .samePlaces)) i; lists = (P .asMany ∙ sym (Q .asMany)) i; entries = entries i; free = record { head = (P .freeHead ∙ sym (Q .freeHead)) i; count = free-count i } }
 
 module _ {E : Engine} {links : E .Links} {values : List ℕ} {b : AnyBook} {r r′ : Called E} where
   pub refused-one : Refused E links values b r → Refused E links values b r′ → r .number ≡ r′ .number → r .place ≡ r′ .place → r ≡ r′
@@ -87,14 +90,14 @@ module _ {E : Engine} {links : E .Links} {values : List ℕ} {b : AnyBook} {r r�
         (λ i. record {
           links = same i .links;
           values = same i .values;
-          book = book-one l (omega (arith, Q .listed, Q .book .sameCount)) (Q .sound) (P .sound) (others-between (Q .book) (P .book)) i;
+          book = book-one l (omega (arith, Q .listed, Q .book .sameLists)) (Q .sound) (P .sound) (others-between (Q .book) (P .book)) i;
         })
 
     module _ (L : Lawful E) {end : End} where
       pub pushes-one : {value : ℕ} → Pushes E links values b end l value s r → Pushes E links values b end l value s r′ → r ≡ r′
       pushes-one {value} P Q =
           same-called (P .number ∙ sym (Q .number)) (P .unplaced ∙ sym (Q .unplaced)) (P .noValue ∙ sym (Q .noValue))
-          (state-one L {st = left r′} {t = left r} l (omega (arith, Q .listed, Q .book .sameCount)) (Q .sound) there (P .cells ∙ ap (λ x. set values x value) slot ∙ sym (Q .cells)) (others-between (Q .book) (P .book)))
+          (state-one L {st = left r′} {t = left r} l (omega (arith, Q .listed, Q .book .sameLists)) (Q .sound) there (P .cells ∙ ap (λ x. set values x value) slot ∙ sym (Q .cells)) (others-between (Q .book) (P .book)))
         where
           both : P .slot ∷ P .rest ≡ Q .slot ∷ Q .rest
           both = sym (P .first) ∙ Q .first
@@ -111,7 +114,7 @@ module _ {E : Engine} {links : E .Links} {values : List ℕ} {b : AnyBook} {r r�
       pub pops-one : Pops E links values b end l s r → Pops E links values b end l s r′ → r ≡ r′
       pops-one P Q =
           same-called (P .number ∙ sym (Q .number)) (P .unplaced ∙ sym (Q .unplaced)) handed
-          (state-one L {st = left r′} {t = left r} l (omega (arith, Q .listed, Q .book .sameCount)) (Q .sound) there (P .cells ∙ ap (λ x. set values x wipeWord) (same .0) ∙ sym (Q .cells)) (others-between (Q .book) (P .book)))
+          (state-one L {st = left r′} {t = left r} l (omega (arith, Q .listed, Q .book .sameLists)) (Q .sound) there (P .cells ∙ ap (λ x. set values x wipeWord) (same .0) ∙ sym (Q .cells)) (others-between (Q .book) (P .book)))
         where
           same : (P .slot ≡ Q .slot) × (P .rest ≡ Q .rest)
           same = joined-one end (P .slot) (Q .slot) (P .rest) (Q .rest) (sym (P .last) ∙ Q .last)

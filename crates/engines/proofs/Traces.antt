@@ -19,7 +19,8 @@ use Rattle.shapes.specs.declared.End.the-variants.{Front, Back}
 use Rattle.shapes.specs.Ends.{joined, contents}
 use Rattle.shapes.specs.Shape.{Shape, chainAt, put, joinedUp, lacks}
 use Rattle.shapes.proofs.Ends.{length-joined}
-use Rattle.shapes.specs.Setup.{freshShape}
+use Rattle.shapes.specs.Setup.{addedUp, freshShape}
+use Rattle.shapes.proofs.Shape.{joined-length}
 use Rattle.shapes.specs.Changes.{OtherEntries, OtherLists}
 use Rattle.shapes.specs.Moves.{Move, check, askLength, pushBack, pushFront, popBack, popFront, readForward, readBackward, clear}
 use Rattle.engines.specs.Engine.{Engine}
@@ -31,7 +32,7 @@ use Rattle.shapes.specs.Ledger.{Ledger, nothingNoted, oneMore, noneAt, heldAt, 
 use Rattle.shapes.proofs.Ledger.{more-here, more-other, none-here, none-other, held-here, held-other, without, without-joined}
 use Rattle.engines.specs.Trace.{othersLack, noted, Trace, begins, goesOn, Demand3}
 use Rattle.engines.proofs.Shape.{unique-book}
-use Rattle.engines.proofs.Found.{listed, entry-is, within}
+use Rattle.engines.proofs.Found.{listed, entry-is, within, stored-length, stored-free, all-slots}
 use Rattle.engines.proofs.Fresh.{setup-keeps}
 use Rattle.engines.proofs.When.{check-given, length-given, push-given, pop-given, clear-given, read-given}
 use Rattle.engines.proofs.Outcomes.{push-done, pop-done, clear-done}
@@ -74,7 +75,7 @@ module _ {E : Engine} (L : Lawful E) (places lists : ℕ) (shares limits : List 
       record {
         sound = S;
         samePlaces = B .samePlaces ∙ K .samePlaces;
-        asMany = B .sameCount ∙ K .asMany;
+        asMany = B .sameLists ∙ K .asMany;
         share = λ k h. share-at k h (ℕ-discrete k l);
         limit = λ k h. limit-at k h (ℕ-discrete k l);
         holds = λ k h. holds-at k h (ℕ-discrete k l);
@@ -235,6 +236,8 @@ module _ {E : Engine} (L : Lawful E) (places lists : ℕ) (shares limits : List 
           asMany = K .asMany;
           granted = λ l h. (K .share l h, K .limit l h);
           holds = K .holds;
+          lengths = λ l h. omega (arith, stored-length S l (below l 0 h), K .holds l h);
+          freeCount = omega (arith, stored-free S, all-slots S, joined-length lists (s .chains) (λ l. ledger .pushes l - ledger .pops l) (omega (arith, S .pool .lists, length-take-le (st .book .lists) (st .book .entries) (S .rules .there), K .asMany)) (λ l h. omega (arith, K .holds l h)));
           sequence = K .sequence;
           freed = λ y p q z. omega (arith, S .pool .once y p q, count-append y (joinedUp (s .chains)) (s .idle));
           within = λ l h. rw (K .limit l h) at (within S l (below l 0 h));

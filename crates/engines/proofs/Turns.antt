@@ -9,8 +9,9 @@ use Rattle.shapes.specs.Met.{isMetOf, markOf, unmet}
 use Rattle.shapes.specs.Walk.{walkOn, walkable}
 use Rattle.shapes.specs.Numbers.{decided}
 use Rattle.shapes.specs.Setup.{freshValue}
-use Rattle.shapes.specs.Faults.{nothingMet, spareFault, idleFault}
+use Rattle.shapes.specs.Faults.{nothingMet, countFault, spareFault, idleFault}
 use Rattle.engines.specs.Check.{sizesFit, idlePath, gatherAll, nullSlotZero, poolFound, checkFound}
+use Rattle.engines.specs.Counted.{countedPush, countedPop}
 use Rattle.engines.specs.Reads.{isSlot, valuesAlong, clearOn}
 use Rattle.engines.specs.Calls.{setupCall, checkCall, lengthCall, pushCall, popCall, clearCall, readCall}
 use Rattle.engines.specs.Trace.{othersLack}
@@ -18,38 +19,38 @@ use Rattle.engines.specs.Turns.{trialP3, ones, listNumbers, pushNumbers,
 use Rattle.engines.specs.Left.{turns, callsPass, readsTried, readsPass, lengths, eightLengths, refusedLengths, setups, setupsPass, sizeGives}
 
 pub ones-tried : numbersPass ones ≡ true
-unfolding isFair isZero gather allZero keepsRules nearOf withNear isMetOf markOf unmet walkOn walkable decided nothingMet spareFault idleFault sizesFit idlePath gatherAll nullSlotZero poolFound checkFound isSlot valuesAlong clearOn checkCall lengthCall pushCall popCall clearCall readCall
+unfolding isFair isZero gather allZero keepsRules nearOf withNear isMetOf markOf unmet walkOn walkable decided nothingMet countFault spareFault idleFault sizesFit idlePath gatherAll nullSlotZero poolFound checkFound isSlot valuesAlong countedPush countedPop clearOn checkCall lengthCall pushCall popCall clearCall readCall
 ones-tried = refl
 
 pub list-numbers-tried : numbersPass listNumbers ≡ true
-unfolding isFair isZero gather allZero keepsRules nearOf withNear isMetOf markOf unmet walkOn walkable decided nothingMet spareFault idleFault sizesFit idlePath gatherAll nullSlotZero poolFound checkFound isSlot valuesAlong clearOn checkCall lengthCall pushCall popCall clearCall readCall
+unfolding isFair isZero gather allZero keepsRules nearOf withNear isMetOf markOf unmet walkOn walkable decided nothingMet countFault spareFault idleFault sizesFit idlePath gatherAll nullSlotZero poolFound checkFound isSlot valuesAlong countedPush countedPop clearOn checkCall lengthCall pushCall popCall clearCall readCall
 list-numbers-tried = refl
 
 pub push-numbers-tried : numbersPass pushNumbers ≡ true
-unfolding isFair isZero gather allZero keepsRules nearOf withNear isMetOf markOf unmet walkOn walkable decided nothingMet spareFault idleFault sizesFit idlePath gatherAll nullSlotZero poolFound checkFound isSlot valuesAlong clearOn checkCall lengthCall pushCall popCall clearCall readCall
+unfolding isFair isZero gather allZero keepsRules nearOf withNear isMetOf markOf unmet walkOn walkable decided nothingMet countFault spareFault idleFault sizesFit idlePath gatherAll nullSlotZero poolFound checkFound isSlot valuesAlong countedPush countedPop clearOn checkCall lengthCall pushCall popCall clearCall readCall
 push-numbers-tried = refl
 
 pub every-push-tried : numbersPass everyPush ≡ true
-unfolding isFair isZero gather allZero keepsRules nearOf withNear isMetOf markOf unmet walkOn walkable decided nothingMet spareFault idleFault sizesFit idlePath gatherAll nullSlotZero poolFound checkFound isSlot valuesAlong clearOn checkCall lengthCall pushCall popCall clearCall readCall
+unfolding isFair isZero gather allZero keepsRules nearOf withNear isMetOf markOf unmet walkOn walkable decided nothingMet countFault spareFault idleFault sizesFit idlePath gatherAll nullSlotZero poolFound checkFound isSlot valuesAlong countedPush countedPop clearOn checkCall lengthCall pushCall popCall clearCall readCall
 every-push-tried = refl
 
 pub read-numbers-tried : numbersPass readNumbers ≡ true
-unfolding isFair isZero gather allZero keepsRules nearOf withNear isMetOf markOf unmet walkOn walkable decided nothingMet spareFault idleFault sizesFit idlePath gatherAll nullSlotZero poolFound checkFound isSlot valuesAlong clearOn checkCall lengthCall pushCall popCall clearCall readCall
+unfolding isFair isZero gather allZero keepsRules nearOf withNear isMetOf markOf unmet walkOn walkable decided nothingMet countFault spareFault idleFault sizesFit idlePath gatherAll nullSlotZero poolFound checkFound isSlot valuesAlong countedPush countedPop clearOn checkCall lengthCall pushCall popCall clearCall readCall
 read-numbers-tried = refl
 
 -- ---- what is left
 
 -- a free slot's value is 0 after a pop and after a clear, whatever bits it had
 pub turns-tried : callsPass turns ≡ true
-unfolding isFair isZero gather allZero keepsRules nearOf withNear isMetOf markOf unmet walkOn walkable decided nothingMet spareFault idleFault sizesFit idlePath gatherAll nullSlotZero poolFound checkFound isSlot valuesAlong clearOn checkCall lengthCall pushCall popCall clearCall readCall
+unfolding isFair isZero gather allZero keepsRules nearOf withNear isMetOf markOf unmet walkOn walkable decided nothingMet countFault spareFault idleFault sizesFit idlePath gatherAll nullSlotZero poolFound checkFound isSlot valuesAlong countedPush countedPop clearOn checkCall lengthCall pushCall popCall clearCall readCall
 turns-tried = refl
 
 pub reads-tried : readsPass readsTried ≡ true
-unfolding isFair isZero gather allZero keepsRules nearOf withNear isMetOf markOf unmet walkOn walkable decided nothingMet spareFault idleFault sizesFit idlePath gatherAll nullSlotZero poolFound checkFound isSlot valuesAlong clearOn checkCall lengthCall pushCall popCall clearCall readCall
+unfolding isFair isZero gather allZero keepsRules nearOf withNear isMetOf markOf unmet walkOn walkable decided nothingMet countFault spareFault idleFault sizesFit idlePath gatherAll nullSlotZero poolFound checkFound isSlot valuesAlong countedPush countedPop clearOn checkCall lengthCall pushCall popCall clearCall readCall
 reads-tried = refl
 
 pub lengths-tried : (lengths ≡ 4 ∷ 1 ∷ 0 ∷ 0 ∷ []) × (eightLengths ≡ 0 ∷ 0 ∷ 0 ∷ 1 ∷ 0 ∷ 0 ∷ 0 ∷ 2 ∷ 0 ∷ []) × (refusedLengths ≡ 0 ∷ 0 ∷ 0 ∷ 0 ∷ 0 ∷ 0 ∷ [])
-unfolding isFair isZero gather allZero keepsRules isMetOf markOf unmet walkOn walkable decided nothingMet spareFault idleFault sizesFit idlePath gatherAll nullSlotZero poolFound checkFound lengthCall
+unfolding isFair isZero gather allZero keepsRules isMetOf markOf unmet walkOn walkable decided nothingMet countFault spareFault idleFault sizesFit idlePath gatherAll nullSlotZero poolFound checkFound lengthCall
 lengths-tried = (refl, refl, refl)
 
 -- and after a setup; and setup's numbers

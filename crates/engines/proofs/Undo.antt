@@ -60,7 +60,7 @@ module _ {E : Engine} {st : State E} {value : ℕ} {r : Called E} (U : Undone E 
         number = U .number;
         handed = U .handed;
         holdings = subst (λ (t : State E). SameHoldings E st t) (sym undone-left)
-            (record { was = s; wasSound = S; is = s; isSound = S; lists = refl; granted = λ l h. (refl, refl); sequence = λ l h. refl; lengths = λ l h. refl; free = refl });
+            (record { was = s; wasSound = S; is = s; isSound = S; lists = refl; granted = λ l h. (refl, refl); sequence = λ l h. refl; lengths = λ l h. refl; free = refl; stored = λ l h. refl; freeCount = refl });
       }
 
 module _ {E : Engine} (L : Lawful E) where

@@ -52,7 +52,7 @@ module _ {E : Engine} {st : State E} (r : Called E) {s : Shape} (S : SoundBook E
       record {
         shape = put s l xs fs;
         sound = T;
-        listed = omega (arith, B .sameCount);
+        listed = omega (arith, B .sameLists);
         holds = ap (contents (r .values)) (getD-set-same (s .chains) l xs [] (omega (arith, S .pool .lists, listed S l h))) ∙ e;
       }
 
@@ -62,7 +62,7 @@ module _ {E : Engine} {st : State E} (r : Called E) {s : Shape} (S : SoundBook E
       record {
         shape = put s l xs fs;
         sound = T;
-        listed = omega (arith, H .listed, B .sameCount);
+        listed = omega (arith, H .listed, B .sameLists);
         holds = ap (contents (r .values)) (getD-set-other (s .chains) l k xs [] d) ∙ O k d ∙ viewed L H S;
       }
 

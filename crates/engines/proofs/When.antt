@@ -17,7 +17,7 @@ use Rattle.books.proofs.Tests.{and-both, both-and, not-both}
 use Rattle.shapes.specs.declared.End.{End}
 use Rattle.shapes.specs.declared.Fault.{Fault}
 use Rattle.shapes.specs.Faults.{fault, noFault}
-use Rattle.shapes.specs.Shape.{Shape, chainAt, lacks}
+use Rattle.shapes.specs.Shape.{Shape, chainAt, lacks, storedLacks}
 use Rattle.books.specs.declared.Length.{Length}
 use Rattle.shapes.specs.Numbers.{Test, firstThat, Condition, numbersOf, Given}
 use Rattle.shapes.specs.Tests.{ReadLeft}
@@ -32,7 +32,7 @@ use Rattle.engines.specs.Check.{sizesFit, checkFound}
 use Rattle.engines.specs.Conditions.{setupConditions, OfShape, FirstBroken, rulesBroken, checkConditions, listConditions, pushConditions, popConditions, readConditions}
 use Rattle.engines.specs.Calls.{Called, checkTests, foundOf, listTests, pushTests, popTests, readTests, checkCall, lengthCall, pushCall, popCall, clearCall, readCall}
 use Rattle.engines.proofs.Checked.{fits-exactly}
-use Rattle.engines.proofs.Found.{found-length, found-lacks, found-free}
+use Rattle.engines.proofs.Found.{stored-length, stored-lacks, stored-free}
 use Rattle.engines.proofs.FirstFault.{breaks-rule, first-fault, only-fault, sound-unbroken}
 use Rattle.engines.proofs.Ruled.{rule-among, known-fault}
 
@@ -42,9 +42,9 @@ no-slots (x ∷ xs) e = absurd (omega arith)
 
 -- ---- the number of each call is that of the first test that applies
 
-pub check-number : (E : Engine) (links : E .Links) (values : List ℕ) (b : AnyBook) → checkCall E links values b .number ≡ firstThat (checkTests E links values b 0)
+pub check-number : (E : Engine) (links : E .Links) (values : List ℕ) (b : AnyBook) → checkCall E links values b .number ≡ firstThat (checkTests E links values b)
 unfolding checkCall
-check-number E links values b = decided-number _ _ (λ (r : Refusal). r .number) (λ n. refl) refl (checkTests E links values b 0)
+check-number E links values b = decided-number _ _ (λ (r : Refusal). r .number) (λ n. refl) refl (checkTests E links values b)
 
 module _ (E : Engine) (links : E .Links) (values : List ℕ) (b : AnyBook) (l : ℕ) where
   pub length-number : lengthCall E links values b l .refusal .number ≡ firstThat (listTests E links values b l)
@@ -66,6 +66,23 @@ module _ (E : Engine) (links : E .Links) (values : List ℕ) (b : AnyBook) (l : 
   pub read-number : (end : End) (buffer : List ℕ) (at : ℕ) → readCall E links values b l end buffer at .answer .refusal .number ≡ firstThat (readTests E links values b l (length buffer) at)
   unfolding readCall
   read-number end buffer at = decided-number _ _ (λ (r : ReadLeft). r .answer .refusal .number) (λ n. refl) refl (readTests E links values b l (length buffer) at)
+
+-- what the reads test of a list with so many slots
+pub no-room-left : (at room many : ℕ) → not (leb at room && leb many (room - at)) ≡ true ↔ ((room < at) ⊎ (room < at + many))
+no-room-left at room many = (to (leb at room) (leb many (room - at)) refl refl, from)
+  where
+    to : (x y : Bool) → leb at room ≡ x → leb many (room - at) ≡ y → not (leb at room && leb many (room - at)) ≡ true → (room < at) ⊎ (room < at + many)
+    to true true ex ey h = absurd (not-both true refl (sym (rw (ex, ey) at h)))
+    to true false ex ey h = inr (omega (arith, leb-true at room ex, leb-false many (room - at) ey))
+    to false y ex ey h = inl (leb-false _ _ ex)
+
+    short : (x : Bool) → leb at room ≡ x → room < at + many → not (leb at room && leb many (room - at)) ≡ true
+    short true ex k = rw (ex, lt-leb many (room - at) (omega (arith, leb-true at room ex)))
+    short false ex k = rw ex
+
+    from : (room < at) ⊎ (room < at + many) → not (leb at room && leb many (room - at)) ≡ true
+    from (inl k) = rw (lt-leb _ _ k)
+    from (inr k) = short (leb at room) refl k
 
 -- ---- the tests are the conditions, and so the number is the first whose condition holds
 
@@ -90,31 +107,31 @@ module _ {E : Engine} (L : Lawful E) (links : E .Links) (values : List ℕ) (b :
       whole : FirstBroken E links values b k → ⊥
       whole (l, p, B) = sound-unbroken L links values b (S .pool .fit) S B
 
-  -- 1, and 9 to 15; what comes after them may rest on a sound shape
-  check-gives : (wanted : ℕ) {us : List Test} {cs : List Condition} → ((s : Shape) → SoundBook E links values b s → Matches us cs)
-      → Given (checkConditions E links values b ++ cs) (firstThat (checkTests E links values b wanted ++ us))
-  check-gives wanted {us} {cs} more = go (sizesFit E links values) refl
+  -- 1, and 9 to 16; what comes after them may rest on a sound shape
+  check-gives : {us : List Test} {cs : List Condition} → ((s : Shape) → SoundBook E links values b s → Matches us cs)
+      → Given (checkConditions E links values b ++ cs) (firstThat (checkTests E links values b ++ us))
+  check-gives {us} {cs} more = go (sizesFit E links values) refl
     where
       sized : sizesFit E links values ≡ true → (fit : Fit E links values)
-          → ((checkFound E wanted links values b .fault ≡ noFault) × ((s : Shape) × SoundBook E links values b s)) ⊎ Breaks E links values b (checkFound E wanted links values b .fault)
-          → Given (checkConditions E links values b ++ cs) (firstThat (checkTests E links values b wanted ++ us))
+          → ((checkFound E links values b .fault ≡ noFault) × ((s : Shape) × SoundBook E links values b s)) ⊎ Breaks E links values b (checkFound E links values b .fault)
+          → Given (checkConditions E links values b ++ cs) (firstThat (checkTests E links values b ++ us))
       sized e fit (inl (z, (s, S))) = rw (e, z) (G.later (λ (n : Fit E links values → ⊥). n fit) (none-broken S faultRules (given (more s S))))
       sized e fit (inr B) =
-          let d : checkFound E wanted links values b .fault .rule ≢ 0 = breaks-rule B in
-          rw (e, ne-eqb (checkFound E wanted links values b .fault .rule) 0 d) (G.later (λ (n : Fit E links values → ⊥). n fit) (rule-given fit B cs faultRules (rule-among (known-fault E wanted links values b) d)))
+          let d : checkFound E links values b .fault .rule ≢ 0 = breaks-rule B in
+          rw (e, ne-eqb (checkFound E links values b .fault .rule) 0 d) (G.later (λ (n : Fit E links values → ⊥). n fit) (rule-given fit B cs faultRules (rule-among (known-fault E links values b) d)))
 
-      go : (x : Bool) → sizesFit E links values ≡ x → Given (checkConditions E links values b ++ cs) (firstThat (checkTests E links values b wanted ++ us))
-      go true e = let fit = fits-exactly E links values .0 e in sized e fit (first-fault L links values b fit wanted)
+      go : (x : Bool) → sizesFit E links values ≡ x → Given (checkConditions E links values b ++ cs) (firstThat (checkTests E links values b ++ us))
+      go true e = let fit = fits-exactly E links values .0 e in sized e fit (first-fault L links values b fit)
       go false e = let unfit : Fit E links values → ⊥ = λ f. not-both (sizesFit E links values) (fits-exactly E links values .1 f) e in rw e (G.this unfit)
 
   pub check-given : Given (checkConditions E links values b) (checkCall E links values b .number)
-  check-given = subst (Given (checkConditions E links values b)) (sym (check-number E links values b)) (check-gives 0 (λ s S. N.none))
+  check-given = subst (Given (checkConditions E links values b)) (sym (check-number E links values b)) (check-gives (λ s S. N.none))
 
   module _ (l : ℕ) where
-    -- 1, 9 to 15 and 4; what comes after them may rest on a sound shape with the list in it
-    list-gives : {us : List Test} {cs : List Condition} → ((s : Shape) → SoundBook E links values b s → l < b .lists → Matches us cs)
+    -- 1, 9 to 16 and 4; what comes after them may rest on a sound shape with the list in it
+    pub list-gives : {us : List Test} {cs : List Condition} → ((s : Shape) → SoundBook E links values b s → l < b .lists → Matches us cs)
         → Given (listConditions E links values b l ++ cs) (firstThat (listTests E links values b l ++ us))
-    list-gives more = check-gives l (λ s S. N.one refl (leb-true _ _, le-leb _ _) (λ e. more s S (leb-false _ _ e)))
+    list-gives more = check-gives (λ s S. N.one refl (leb-true _ _, le-leb _ _) (λ e. more s S (leb-false _ _ e)))
 
     -- a test of what was found is a fact of the sound shape
     of-found : (s : Shape) → SoundBook E links values b s → {test : Bool} {Fact : Shape → Type 0} → ((t : Shape) → SoundBook E links values b t → test ≡ true ↔ Fact t) → test ≡ true ↔ OfShape E links values b Fact
@@ -130,16 +147,16 @@ module _ {E : Engine} (L : Lawful E) (links : E .Links) (values : List ℕ) (b :
         e = entryAt (b .entries) l
 
         many : ℕ
-        many = foundOf E links values b l .length
+        many = entryAt (b .entries) l .length
 
         lacking : ℕ
-        lacking = foundOf E links values b l .lacks
+        lacking = storedLacks (take (b .lists) (b .entries))
 
         free : ℕ
-        free = foundOf E links values b l .free
+        free = b .free .count
 
         at-limit : (t : Shape) → SoundBook E links values b t → l < b .lists → eqb many (e .limit) ≡ true ↔ (length (chainAt t l) ≡ e .limit)
-        at-limit t T below = (λ h. sym (found-length L T l below) ∙ eqb-true _ _ h, λ h. eq-eqb _ _ (found-length L T l below ∙ h))
+        at-limit t T below = (λ h. sym (stored-length T l below) ∙ eqb-true _ _ h, λ h. eq-eqb _ _ (stored-length T l below ∙ h))
 
         no-room : (t : Shape) → SoundBook E links values b t → l < b .lists
             → (ltb many (e .limit) && (leb (e .share) many && leb free lacking)) ≡ true
@@ -147,38 +164,21 @@ module _ {E : Engine} (L : Lawful E) (links : E .Links) (values : List ℕ) (b :
         no-room t T below = (
           λ h. let (x, yz) = and-both (ltb many (e .limit)) (leb (e .share) many && leb free lacking) h in
               let (y, z) = and-both (leb (e .share) many) (leb free lacking) yz in
-              (omega (arith, ltb-true many (e .limit) x, found-length L T l below), omega (arith, leb-true (e .share) many y, found-length L T l below), omega (arith, leb-true free lacking z, found-free L T l, found-lacks L T l)),
-          λ (x, y, z). both-and _ _ (lt-ltb many (e .limit) (omega (arith, found-length L T l below)))
-              (both-and _ _ (le-leb (e .share) many (omega (arith, found-length L T l below))) (le-leb free lacking (omega (arith, found-free L T l, found-lacks L T l)))),
+              (omega (arith, ltb-true many (e .limit) x, stored-length T l below), omega (arith, leb-true (e .share) many y, stored-length T l below), omega (arith, leb-true free lacking z, stored-free T, stored-lacks T)),
+          λ (x, y, z). both-and _ _ (lt-ltb many (e .limit) (omega (arith, stored-length T l below)))
+              (both-and _ _ (le-leb (e .share) many (omega (arith, stored-length T l below))) (le-leb free lacking (omega (arith, stored-free T, stored-lacks T)))),
         )
 
     pop-gives : Given (popConditions E links values b l) (firstThat (popTests E links values b l))
     pop-gives = list-gives (λ s S below. N.one refl (of-found s S (λ t T. is-empty t T below)) (λ e. N.none))
       where
-        is-empty : (t : Shape) → SoundBook E links values b t → l < b .lists → eqb (foundOf E links values b l .length) 0 ≡ true ↔ (chainAt t l ≡ [])
-        is-empty t T below = (λ h. no-slots (chainAt t l) (sym (found-length L T l below) ∙ eqb-true _ _ h), λ h. eq-eqb _ _ (found-length L T l below ∙ ap length h))
+        is-empty : (t : Shape) → SoundBook E links values b t → l < b .lists → eqb (entryAt (b .entries) l .length) 0 ≡ true ↔ (chainAt t l ≡ [])
+        is-empty t T below = (λ h. no-slots (chainAt t l) (sym (stored-length T l below) ∙ eqb-true _ _ h), λ h. eq-eqb _ _ (stored-length T l below ∙ ap length h))
 
     read-gives : (room at : ℕ) → Given (readConditions E links values b l room at) (firstThat (readTests E links values b l room at))
-    read-gives room at = list-gives (λ s S below. N.one refl (of-found s S (λ t T. no-place t T below)) (λ e. N.none))
-      where
-        many : ℕ
-        many = foundOf E links values b l .length
-
-        no-place : (t : Shape) → SoundBook E links values b t → l < b .lists → not (leb at room && leb many (room - at)) ≡ true ↔ ((room < at) ⊎ (room < at + length (chainAt t l)))
-        no-place t T below = (to (leb at room) (leb many (room - at)) refl refl, from)
-          where
-            to : (x y : Bool) → leb at room ≡ x → leb many (room - at) ≡ y → not (leb at room && leb many (room - at)) ≡ true → (room < at) ⊎ (room < at + length (chainAt t l))
-            to true true ex ey h = absurd (not-both true refl (sym (rw (ex, ey) at h)))
-            to true false ex ey h = inr (omega (arith, leb-true at room ex, leb-false many (room - at) ey, found-length L T l below))
-            to false y ex ey h = inl (leb-false _ _ ex)
-
-            from : (room < at) ⊎ (room < at + length (chainAt t l)) → not (leb at room && leb many (room - at)) ≡ true
-            from (inl k) = rw (lt-leb _ _ k)
-            from (inr k) = short (leb at room) refl
-              where
-                short : (x : Bool) → leb at room ≡ x → not (leb at room && leb many (room - at)) ≡ true
-                short true ex = rw (ex, lt-leb many (room - at) (omega (arith, leb-true at room ex, found-length L T l below)))
-                short false ex = rw ex
+    read-gives room at =
+        list-gives (λ s S below.
+        N.one refl (of-found s S (λ t T. subst (λ (n : ℕ). not (leb at room && leb (entryAt (b .entries) l .length) (room - at)) ≡ true ↔ ((room < at) ⊎ (room < at + n))) (stored-length T l below) (no-room-left at room _))) (λ e. N.none))
 
     -- ---- the number of each call
 
@@ -197,12 +197,12 @@ module _ {E : Engine} (L : Lawful E) (links : E .Links) (values : List ℕ) (b :
     pub read-given : (end : End) (buffer : List ℕ) (at : ℕ) → Given (readConditions E links values b l (length buffer) at) (readCall E links values b l end buffer at .answer .refusal .number)
     read-given end buffer at = subst (Given (readConditions E links values b l (length buffer) at)) (sym (read-number E links values b l end buffer at)) (read-gives (length buffer) at)
 
--- 01: "Tests run in the order 1 to 8", with 9 to 15 in the place of 3. Which numbers a call can give besides 0, in the order in which their conditions are asked
+-- 01: "Tests run in the order 1 to 8", with 9 to 16 in the place of 3. Which numbers a call can give besides 0, in the order in which their conditions are asked
 module _ (E : Engine) (links : E .Links) (values : List ℕ) (b : AnyBook) (l room at places lists : ℕ) (shares limits : List ℕ) where
   pub numbers-in-order : (numbersOf (setupConditions E links values places lists shares limits) ≡ 1 ∷ 2 ∷ [])
-      × (numbersOf (checkConditions E links values b) ≡ 1 ∷ 9 ∷ 10 ∷ 11 ∷ 12 ∷ 13 ∷ 14 ∷ 15 ∷ [])
-      × (numbersOf (listConditions E links values b l) ≡ 1 ∷ 9 ∷ 10 ∷ 11 ∷ 12 ∷ 13 ∷ 14 ∷ 15 ∷ 4 ∷ [])
-      × (numbersOf (pushConditions E links values b l) ≡ 1 ∷ 9 ∷ 10 ∷ 11 ∷ 12 ∷ 13 ∷ 14 ∷ 15 ∷ 4 ∷ 6 ∷ 7 ∷ [])
-      × (numbersOf (popConditions E links values b l) ≡ 1 ∷ 9 ∷ 10 ∷ 11 ∷ 12 ∷ 13 ∷ 14 ∷ 15 ∷ 4 ∷ 5 ∷ [])
-      × (numbersOf (readConditions E links values b l room at) ≡ 1 ∷ 9 ∷ 10 ∷ 11 ∷ 12 ∷ 13 ∷ 14 ∷ 15 ∷ 4 ∷ 8 ∷ [])
+      × (numbersOf (checkConditions E links values b) ≡ 1 ∷ 9 ∷ 10 ∷ 11 ∷ 12 ∷ 13 ∷ 14 ∷ 15 ∷ 16 ∷ [])
+      × (numbersOf (listConditions E links values b l) ≡ 1 ∷ 9 ∷ 10 ∷ 11 ∷ 12 ∷ 13 ∷ 14 ∷ 15 ∷ 16 ∷ 4 ∷ [])
+      × (numbersOf (pushConditions E links values b l) ≡ 1 ∷ 9 ∷ 10 ∷ 11 ∷ 12 ∷ 13 ∷ 14 ∷ 15 ∷ 16 ∷ 4 ∷ 6 ∷ 7 ∷ [])
+      × (numbersOf (popConditions E links values b l) ≡ 1 ∷ 9 ∷ 10 ∷ 11 ∷ 12 ∷ 13 ∷ 14 ∷ 15 ∷ 16 ∷ 4 ∷ 5 ∷ [])
+      × (numbersOf (readConditions E links values b l room at) ≡ 1 ∷ 9 ∷ 10 ∷ 11 ∷ 12 ∷ 13 ∷ 14 ∷ 15 ∷ 16 ∷ 4 ∷ 8 ∷ [])
   numbers-in-order = (refl, refl, refl, refl, refl, refl)

@@ -12,7 +12,7 @@ use Rattle.engines.specs.Trial.{trial, pool}
 
 -- N = 4: slot 2 is a list's, slots 1 and 3 are no list's; these are the values of slots 0 to 3
 abbrev holding : ℕ → ℕ → ℕ → ℕ → State trial
-holding a b c d = pool (0 ∷ 3 ∷ 0 ∷ 0 ∷ []) (0 ∷ 0 ∷ 0 ∷ 0 ∷ []) (a ∷ b ∷ c ∷ d ∷ []) 1 (entry 2 2 0 3 ∷ none 7) 1
+holding a b c d = pool (0 ∷ 3 ∷ 0 ∷ 0 ∷ []) (0 ∷ 0 ∷ 0 ∷ 0 ∷ []) (a ∷ b ∷ c ∷ d ∷ []) 1 (entry 2 2 0 3 1 ∷ none 7) 1
 
 abbrev middle : Shape
 middle = record { chains = (2 ∷ []) ∷ []; idle = [] }

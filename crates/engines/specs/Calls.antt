@@ -1,9 +1,9 @@
 -- The ten calls over any engine, as they run: which number each gives by its tests, and what it leaves, on any cells and any book with any number of places. What the numbers mean is in `Conditions`, what a done call means in `Done`.
 use mathlib.Core.Bool.{cond, not, _&&_}
 use mathlib.Core.List.{List, [], _∷_, _++_}
-use Prim.Native.Nat.{ℕ}
+use Prim.Native.Nat.{ℕ, _-_}
 use lib.Dec.{leb, eqb}
-use lib.ListN.{length, replicate}
+use lib.ListN.{length, take, replicate}
 use Rattle.books.specs.Place.{Place, noPlace, numbered}
 use Rattle.books.specs.declared.Refusal.{Refusal}
 use Rattle.books.specs.Book.{zeroEntry, entryAt, AnyBook}
@@ -11,6 +11,7 @@ use Rattle.books.specs.Test.{keepsRules}
 use Rattle.books.specs.Tabulate.{tabulate}
 use Rattle.shapes.specs.declared.End.{End}
 use Rattle.shapes.specs.Ends.{nearOf}
+use Rattle.shapes.specs.Shape.{storedLacks}
 use Rattle.shapes.specs.declared.Fault.{Fault}
 use Rattle.shapes.specs.declared.Found.{Found}
 use Rattle.shapes.specs.declared.Looked.{Looked}
@@ -21,6 +22,7 @@ use Rattle.shapes.specs.Setup.{freshValue, freshEntry}
 use Rattle.shapes.specs.Changes.{withList}
 use Rattle.shapes.specs.Tests.{pushOwnTests, popOwnTests, readOwnTests, ReadLeft, readLeft, readOf}
 use Rattle.engines.specs.Engine.{Engine, Step}
+use Rattle.engines.specs.Counted.{countedPush, countedPop}
 use Rattle.engines.specs.Check.{sizesFit, checkFound, lookOf}
 use Rattle.engines.specs.Reads.{countRead, bufferAfter, clearOn}
 
@@ -37,18 +39,19 @@ pub record Called (E : Engine) : Type 0 where
 
 -- the all-zero book
 abbrev pub zeroBookOf : ℕ → AnyBook
-zeroBookOf places = record { places = places; lists = 0; entries = replicate places zeroEntry; free = record { head = 0 } }
+zeroBookOf places = record { places = places; lists = 0; entries = replicate places zeroEntry; free = record { head = 0; count = 0 } }
 
--- 01: "free head 1; lists empty"
-abbrev pub freshBookOf : (places lists : ℕ) → List ℕ → List ℕ → AnyBook
-freshBookOf places lists shares limits = record { places = places; lists = lists; entries = tabulate places (freshEntry shares limits); free = record { head = 1 } }
+-- 01: "free head 1; lists empty"; and so many slots are free
+abbrev pub freshBookOf : (free places lists : ℕ) → List ℕ → List ℕ → AnyBook
+freshBookOf free places lists shares limits = record { places = places; lists = lists; entries = tabulate places (freshEntry shares limits); free = record { head = 1; count = free } }
 
 module _ (E : Engine) (places : ℕ) (links : E .Links) (values : List ℕ) (lists : ℕ) (shares limits : List ℕ) where
   abbrev pub setupTests : List Test
-  setupTests = test 1 (not (sizesFit E links values)) ∷ test 2 (not (keepsRules (E .size links) (freshBookOf places lists shares limits))) ∷ []
+  setupTests = test 1 (not (sizesFit E links values)) ∷ test 2 (not (keepsRules (E .size links) (freshBookOf (E .size links - 1) places lists shares limits))) ∷ []
 
+  -- every slot from 1 to N-1 is free
   abbrev pub setUp : Called E
-  setUp = record { number = 0; place = noPlace; value = 0; book = freshBookOf places lists shares limits; links = E .fresh links; values = tabulate (length values) freshValue }
+  setUp = record { number = 0; place = noPlace; value = 0; book = freshBookOf (E .size links - 1) places lists shares limits; links = E .fresh links; values = tabulate (length values) freshValue }
 
   unfoldable pub setupCall : Called E
   setupCall = decided setupTests setUp (λ n. record { number = n; place = noPlace; value = 0; book = zeroBookOf places; links = links; values = values })
@@ -64,43 +67,49 @@ module _ (E : Engine) (links : E .Links) (values : List ℕ) (b : AnyBook) where
   abbrev pub stepped : ℕ → ℕ → Step (E .Links) → Called E
   stepped l value r = record { number = 0; place = noPlace; value = value; book = withList b l (r .entry) (r .free); links = r .links; values = r .values }
 
-  -- 1, and the rule that is first broken, 9 to 15, which every call but setup tests first. `wanted` is the list whose length is asked for
-  abbrev pub checkTests : ℕ → List Test
-  checkTests wanted = test 1 (not (sizesFit E links values)) ∷ test (checkFound E wanted links values b .fault .rule) (not (eqb (checkFound E wanted links values b .fault .rule) 0)) ∷ []
+  -- what the check finds
+  abbrev pub foundOf : Found
+  foundOf = checkFound E links values b
+
+  -- 1, and the rule that is first broken, 9 to 16, which every call but setup tests first
+  abbrev pub checkTests : List Test
+  checkTests = test 1 (not (sizesFit E links values)) ∷ test (foundOf .fault .rule) (not (eqb (foundOf .fault .rule) 0)) ∷ []
 
   -- 01: "Check: 0 when sound"
   unfoldable pub checkCall : Refusal
-  checkCall = decided (checkTests 0) (numbered 0) (answering (checkFound E 0 links values b .fault))
+  checkCall = decided checkTests (numbered 0) (answering (foundOf .fault))
 
   module _ (l : ℕ) where
-    abbrev pub foundOf : Found
-    foundOf = checkFound E l links values b
+    -- the stored length of the list
+    abbrev pub storedLength : ℕ
+    storedLength = entryAt (b .entries) l .length
 
     -- then 4, which every call on a list tests
     abbrev pub listTests : List Test
-    listTests = checkTests l ++ test 4 (leb (b .lists) l) ∷ []
+    listTests = checkTests ++ test 4 (leb (b .lists) l) ∷ []
 
+    -- 02 c): "6 and 7 use stored counts", and so do 5 and 8
     abbrev pub pushTests : List Test
-    pushTests = listTests ++ pushOwnTests (entryAt (b .entries) l) (foundOf .length) (foundOf .lacks) (foundOf .free)
+    pushTests = listTests ++ pushOwnTests (entryAt (b .entries) l) storedLength (storedLacks (take (b .lists) (b .entries))) (b .free .count)
 
     abbrev pub popTests : List Test
-    popTests = listTests ++ popOwnTests (foundOf .length)
+    popTests = listTests ++ popOwnTests storedLength
 
     abbrev pub readTests : ℕ → ℕ → List Test
-    readTests bufferSize at = listTests ++ readOwnTests (foundOf .length) bufferSize at
+    readTests bufferSize at = listTests ++ readOwnTests storedLength bufferSize at
 
-    -- 1, 9 to 15 or 4, with nothing found, or else 0 and what the check found
+    -- 1, 9 to 16 or 4, with nothing found, or else 0 and what the check found
     unfoldable pub onListOf : Looked
     onListOf =
-        let seen = lookOf E l links values b in
+        let seen = lookOf E links values b in
         cond (eqb (seen .refusal .number) 0 && leb (b .lists) l) (refusedBy (numbered 4)) seen
 
     -- what each call leaves where it is done
     abbrev pub afterPush : End → ℕ → Called E
-    afterPush end value = stepped l 0 (E .push end links values (entryAt (b .entries) l) (b .free) value)
+    afterPush end value = stepped l 0 (countedPush E end links values (entryAt (b .entries) l) (b .free) value)
 
     abbrev pub afterPop : End → Called E
-    afterPop end = let r = E .pop end links values (entryAt (b .entries) l) (b .free) in stepped l (r .value) r
+    afterPop end = let r = countedPop E end links values (entryAt (b .entries) l) (b .free) in stepped l (r .value) r
 
     -- `many` is how many slots the list has
     abbrev pub afterClear : ℕ → Called E
@@ -112,11 +121,11 @@ module _ (E : Engine) (links : E .Links) (values : List ℕ) (b : AnyBook) where
         let start = nearOf end (entryAt (b .entries) l) in
         readLeft (readOf (numbered 0) (countRead E end links values start buffer at)) (bufferAfter E end links values start buffer at)
 
-    -- 01: "a refused length or read returns 0"
+    -- 02 c): "Length answers from the book after the check". 01: "a refused length or read returns 0"
     unfoldable pub lengthCall : Length
     lengthCall =
         decided listTests
-        (record { refusal = numbered 0; length = foundOf .length })
+        (record { refusal = numbered 0; length = storedLength })
         (λ n. record { refusal = answering (foundOf .fault) n; length = 0 })
 
     unfoldable pub pushCall : End → ℕ → Called E
@@ -126,7 +135,7 @@ module _ (E : Engine) (links : E .Links) (values : List ℕ) (b : AnyBook) where
     popCall end = decided popTests (afterPop end) (notCalled (foundOf .fault))
 
     unfoldable pub clearCall : Called E
-    clearCall = decided listTests (afterClear (foundOf .length)) (notCalled (foundOf .fault))
+    clearCall = decided listTests (afterClear storedLength) (notCalled (foundOf .fault))
 
     unfoldable pub readCall : End → List ℕ → ℕ → ReadLeft
     readCall end buffer at = decided (readTests (length buffer) at) (afterRead end buffer at) (λ n. readLeft (readOf (answering (foundOf .fault) n) 0) buffer)

@@ -1,4 +1,4 @@
--- The check as a test that runs, in stages, in the order of 02 b)'s rules 9 to 15, over any engine. What it means is `Sound`, and for the first fault `Breaks`.
+-- The check as a test that runs, in stages, in the order of 02 b)'s rules 9 to 15 and of 02 c)'s 16, over any engine. What it means is `Sound`, and for the first fault `Breaks`.
 use mathlib.Core.Bool.{Bool, cond, _&&_}
 use mathlib.Core.List.{List, [], _∷_}
 use Prim.Native.Nat.{ℕ, suc}
@@ -44,34 +44,31 @@ abbrev pub idleEndsWell : Path → Free → Bool
 idleEndsWell path free = path .ok
 
 -- the lists in number order, from `list` on
-unfoldable pub gatherAll : (E : Engine) (wanted lists : ℕ) (links : E .Links) → ℕ → List Entry → List ℕ → Gathered → Round
-gatherAll E wanted lists links list [] met g = round g met
-gatherAll E wanted lists links list (e ∷ es) met g =
+unfoldable pub gatherAll : (E : Engine) (lists : ℕ) (links : E .Links) → ℕ → List Entry → List ℕ → Gathered → Round
+gatherAll E lists links list [] met g = round g met
+gatherAll E lists links list (e ∷ es) met g =
     let path = livePath E links met e in
     cond (endsWell path e)
-    (gatherAll E wanted lists links (suc list) es (markAll met (path .slots)) (gatherOne wanted lists list e (length (path .slots)) g))
+    (gatherAll E lists links (suc list) es (markAll met (path .slots)) (gatherOne lists list e (length (path .slots)) g))
     (round (gatherFault list (length (path .slots)) g) (markAll met (path .slots)))
 
 -- rule 10: slot 0 has link 0 and value 0
 unfoldable pub nullSlotZero : (E : Engine) → E .Links → List ℕ → Bool
 nullSlotZero E links values = E .nullTest links && eqb (cell values nullSlot) 0
 
--- what the check finds once every list was walked: the length of the list that is asked for, what the lists lack of their shares,
--- and the free slots, which mean something where there is no fault
+-- what the check finds once every list was walked: the fault, and what the lists lack of their shares, which means something where there is none
 abbrev pub idleFound : ℕ → List ℕ → Free → ℕ → Round → Path → Found
 idleFound size values free lists r path =
     record {
-      fault = idleFault (markAll (r .met) (path .slots)) size lists (r .gathered) (idleEndsWell path free) (length (path .slots)) (unwipedFrom values (path .slots) nullSlot);
-      length = r .gathered .length;
+      fault = idleFault (markAll (r .met) (path .slots)) size lists (r .gathered) (idleEndsWell path free) (length (path .slots)) (unwipedFrom values (path .slots) nullSlot) (free .count);
       lacks = r .gathered .lacks;
-      free = length (path .slots);
     }
 
--- the pool over the entries of its L lists: rules 10 to 15. `wanted` is the list whose length is asked for
-unfoldable pub poolFound : (E : Engine) → ℕ → E .Links → List ℕ → List Entry → Free → Found
-poolFound E wanted links values es free =
+-- the pool over the entries of its L lists: rules 10 to 16
+unfoldable pub poolFound : (E : Engine) → E .Links → List ℕ → List Entry → Free → Found
+poolFound E links values es free =
     let lists = length es in
-    let r = gatherAll E wanted lists links 0 es (nothingMet (E .size links)) (gatheredNone lists) in
+    let r = gatherAll E lists links 0 es (nothingMet (E .size links)) (gatheredNone lists) in
     cond (nullSlotZero E links values)
     (cond (eqb (r .gathered .fault .rule) 0)
     (idleFound (E .size links) values free lists r (idlePath E links values (r .met) free))
@@ -79,16 +76,16 @@ poolFound E wanted links values es free =
     (faulty (fault 10 0 0))
 
 -- the whole check, rule 9 first
-unfoldable pub checkFound : (E : Engine) → ℕ → E .Links → List ℕ → AnyBook → Found
-checkFound E wanted links values b =
+unfoldable pub checkFound : (E : Engine) → E .Links → List ℕ → AnyBook → Found
+checkFound E links values b =
     cond (keepsRules (E .size links) b)
-    (poolFound E wanted links values (take (b .lists) (b .entries)) (b .free))
+    (poolFound E links values (take (b .lists) (b .entries)) (b .free))
     (faulty (fault 9 0 0))
 
 -- 1, or the fault with its place, with nothing found, or else 0 and what the check found
-unfoldable pub lookOf : (E : Engine) → ℕ → E .Links → List ℕ → AnyBook → Looked
-lookOf E wanted links values b =
-    let found = checkFound E wanted links values b in
+unfoldable pub lookOf : (E : Engine) → E .Links → List ℕ → AnyBook → Looked
+lookOf E links values b =
+    let found = checkFound E links values b in
     cond (sizesFit E links values)
     (cond (eqb (found .fault .rule) 0) (lookedFine found) (refusedBy (naming (found .fault))))
     (refusedBy (numbered 1))

@@ -1,4 +1,4 @@
--- 01's table of numbers with 02 b)'s: for each call the conditions in the order in which they are tested, said of the sound shape, or of the first rule that is broken. What runs is in `Calls`.
+-- 01's table of numbers with 02 b)'s and 02 c)'s: for each call the conditions in the order in which they are tested, said of the sound shape, or of the first rule that is broken. What runs is in `Calls`.
 use mathlib.Core.Path.{_≡_}
 use mathlib.Core.Logic.{_⊎_}
 use mathlib.Core.List.{List, [], _∷_, _++_}
@@ -6,7 +6,7 @@ use Prim.Native.Nat.{ℕ, _+_, _≤_, _<_}
 use lib.ListN.{length, take}
 use Rattle.books.specs.Book.{entryAt, AnyBook}
 use Rattle.books.specs.Table.{faultRules}
-use Rattle.shapes.specs.Shape.{Shape, chainAt, lacks}
+use Rattle.shapes.specs.Shape.{Shape, chainAt, lacks, storedLacks}
 use Rattle.shapes.specs.Numbers.{Condition, condition}
 use Rattle.shapes.specs.Setup.{SetupRules}
 use Rattle.shapes.specs.Faults.{fault}
@@ -33,7 +33,7 @@ module _ (E : Engine) (links : E .Links) (values : List ℕ) (b : AnyBook) where
   rulesBroken [] = []
   rulesBroken (k ∷ ks) = condition k (FirstBroken k) ∷ rulesBroken ks
 
-  -- 1, and then 9 to 15
+  -- 1, and then 9 to 16
   abbrev pub checkConditions : List Condition
   checkConditions = condition 1 (Fit E links values → ⊥) ∷ rulesBroken faultRules
 
@@ -60,3 +60,22 @@ module _ (E : Engine) (links : E .Links) (values : List ℕ) (b : AnyBook) where
 
     abbrev pub readConditions : ℕ → ℕ → List Condition
     readConditions bufferSize at = listConditions ++ condition 8 (OfShape (TooSmall bufferSize at)) ∷ []
+
+    -- ---- the same over the stored counts of the book. After the check they are the sequences' (02 c)
+
+    -- 6: the stored length equals the limit; 7: it is under the limit and at least the share, and the stored free count is no more than the sum of lacks
+    abbrev pub storedPushConditions : List Condition
+    storedPushConditions =
+        let e = entryAt (b .entries) l in
+        listConditions
+        ++ condition 6 (e .length ≡ e .limit)
+        ∷ condition 7 ((e .length < e .limit) × (e .share ≤ e .length) × (b .free .count ≤ storedLacks (take (b .lists) (b .entries))))
+        ∷ []
+
+    -- 5: the stored length is 0
+    abbrev pub storedPopConditions : List Condition
+    storedPopConditions = listConditions ++ condition 5 (entryAt (b .entries) l .length ≡ 0) ∷ []
+
+    -- 8: fewer places from `at` on than the stored length
+    abbrev pub storedReadConditions : ℕ → ℕ → List Condition
+    storedReadConditions bufferSize at = listConditions ++ condition 8 ((bufferSize < at) ⊎ (bufferSize < at + entryAt (b .entries) l .length)) ∷ []

@@ -20,6 +20,7 @@ use Rattle.shapes.specs.Tests.{ReadLeft}
 use Rattle.shapes.specs.Changes.{OtherEntries, OtherLists}
 use Rattle.shapes.specs.Numbers.{Given}
 use Rattle.engines.specs.Engine.{Engine, Step}
+use Rattle.engines.specs.Counted.{countedPop}
 use Rattle.engines.specs.Sound.{SoundBook}
 use Rattle.engines.specs.Conditions.{setupConditions}
 use Rattle.engines.specs.Calls.{Called, zeroBookOf}
@@ -29,8 +30,8 @@ use Rattle.engines.specs.Calls.{Called, zeroBookOf}
 pub data Emptied (E : Engine) : E .Links → List ℕ → Entry → Free → Step (E .Links) → Type 0 where
   empty : {links : E .Links} {values : List ℕ} {list : Entry} {free : Free} → list .tail ≡ nullSlot
       → Emptied E links values list free (record { done = true; value = 0; entry = list; free = free; links = links; values = values })
-  popped : {links : E .Links} {values : List ℕ} {list : Entry} {free : Free} {r : Step (E .Links)} → list .tail ≢ nullSlot → E .pop Front links values list free .done ≡ true
-      → Emptied E (E .pop Front links values list free .links) (E .pop Front links values list free .values) (E .pop Front links values list free .entry) (E .pop Front links values list free .free) r
+  popped : {links : E .Links} {values : List ℕ} {list : Entry} {free : Free} {r : Step (E .Links)} → list .tail ≢ nullSlot → countedPop E Front links values list free .done ≡ true
+      → Emptied E (countedPop E Front links values list free .links) (countedPop E Front links values list free .values) (countedPop E Front links values list free .entry) (countedPop E Front links values list free .free) r
       → Emptied E links values list free r
 
 -- 01: "a refused setup returns the all-zero book", and "no lent slice changes"
@@ -52,6 +53,9 @@ pub record SetupKeeps (E : Engine) (places : ℕ) (links : E .Links) (lists : �
   pub share : (l : ℕ) → l < places → entryAt (r .book .entries) l .share ≡ getD shares l 0
   pub limit : (l : ℕ) → l < places → entryAt (r .book .entries) l .limit ≡ getD limits l 0
   pub freeHead : r .book .free .head ≡ 1
+  -- 02 c): no list has a slot, and N-1 are free
+  pub noLength : (l : ℕ) → l < places → entryAt (r .book .entries) l .length ≡ 0
+  pub freeCount : r .book .free .count + 1 ≡ E .size links
   pub sameSize : E .size (r .links) ≡ E .size links
   pub sound : SoundBook E (r .links) (r .values) (r .book) (freshShape (E .size links) lists)
 
@@ -83,10 +87,12 @@ module _ (E : Engine) (links : E .Links) (values : List ℕ) (b : AnyBook) where
     -- 000: the old sequence and the value at the end
     pub holds : contents (r .values) (joined end slot (chainAt s l)) ≡ joined end value (contents values (chainAt s l))
     pub otherLists : OtherLists values s l (r .values)
-    -- 01: "Only the new slot, the old end slot and, in the book, that list's ends and the free head change"
+    -- 01: "Only the new slot, the old end slot and, in the book, that list's ends and the free head change"; with 02 c) the list's length and the free count too
     pub cells : r .values ≡ set values slot value
     pub frame : (y : ℕ) → count y (slot ∷ endSlot end (chainAt s l)) ≡ 0 → E .Same links (r .links) y
     pub book : OtherEntries b l (r .book)
+    pub longer : entryAt (r .book .entries) l .length ≡ entryAt (b .entries) l .length + 1
+    pub fewer : r .book .free .count + 1 ≡ b .free .count
 
   -- a done pop on list l: the slot at the end leaves for the front of the idle chain, wiped, and its value is handed out
   pub record Pops (end : End) (l : ℕ) (s : Shape) (r : Called E) : Type 0 where
@@ -101,10 +107,12 @@ module _ (E : Engine) (links : E .Links) (values : List ℕ) (b : AnyBook) where
     pub holds : contents values (chainAt s l) ≡ joined end (r .value) (contents (r .values) rest)
     pub wiped : cell (r .values) slot ≡ wipeWord
     pub otherLists : OtherLists values s l (r .values)
-    -- 01: "Only it, its neighbour and, in the book, that list's ends and the free head change"
+    -- 01: "Only it, its neighbour and, in the book, that list's ends and the free head change"; with 02 c) the list's length and the free count too
     pub cells : r .values ≡ set values slot wipeWord
     pub frame : (y : ℕ) → count y (slot ∷ endSlot end rest) ≡ 0 → E .Same links (r .links) y
     pub book : OtherEntries b l (r .book)
+    pub shorter : entryAt (r .book .entries) l .length + 1 ≡ entryAt (b .entries) l .length
+    pub more : r .book .free .count ≡ b .free .count + 1
 
   -- a done clear of list l: its slots are in front of the idle chain, the last of them first, each wiped
   pub record Clears (l : ℕ) (s : Shape) (r : Called E) : Type 0 where
@@ -122,6 +130,9 @@ module _ (E : Engine) (links : E .Links) (values : List ℕ) (b : AnyBook) where
     pub sameSize : length (r .values) ≡ length values
     pub frame : (y : ℕ) → count y (chainAt s l) ≡ 0 → E .Same links (r .links) y
     pub book : OtherEntries b l (r .book)
+    -- 02 c): the whole length goes over to the free count
+    pub noLength : entryAt (r .book .entries) l .length ≡ 0
+    pub allMore : r .book .free .count ≡ b .free .count + entryAt (b .entries) l .length
 
 -- a done read of list l: its values, from the end on, stand in the buffer from `at` on, and every other place keeps what it held
 pub record Reads (end : End) (values : List ℕ) (l : ℕ) (buffer : List ℕ) (at : ℕ) (s : Shape) (r : ReadLeft) : Type 0 where

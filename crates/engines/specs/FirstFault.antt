@@ -1,6 +1,6 @@
--- When each of 02 b)'s rules 9 to 15 is the first that is broken, with its list and its position, over any engine. It is a definition, not the check's algorithm; a pool in which none is broken is `Sound`.
+-- When each of 02 b)'s rules 9 to 15, and 02 c)'s 16, is the first that is broken, with its list and its position, over any engine. It is a definition, not the check's algorithm; a pool in which none is broken is `Sound`.
 use mathlib.Core.Path.{_≡_}
-use mathlib.Core.Logic.{_⊎_}
+use mathlib.Core.Logic.{_≢_, _⊎_}
 use mathlib.Core.List.{List, []}
 use Prim.Native.Nat.{ℕ, _≤_, _<_}
 use lib.ListN.{length, getD, take}
@@ -36,7 +36,7 @@ pub record Chained (E : Engine) (links : E .Links) (es : List Entry) (cs : List 
   pub entry : (l : ℕ) → l < length es → EntryHolds (entryAt es l) (getD cs l [])
   pub live : (l : ℕ) → l < length es → E .Live links (getD cs l [])
 
--- and so has the free record; no slot stands twice in all of them together
+-- and so has the free record, whatever the stored counts are; no slot stands twice in all of them together
 pub record AllChained (E : Engine) (links : E .Links) (es : List Entry) (free : Free) (s : Shape) : Type 0 where
   pub chained : Chained E links es (s .chains)
   pub freeRecord : FreeHolds free (s .idle)
@@ -73,6 +73,23 @@ pub record SharesUncovered (es : List Entry) (s : Shape) (l : ℕ) : Type 0 wher
   pub short : (k : ℕ) → k < length es → length (chainAt s k) ≤ entryAt es k .limit
   pub few : length (s .idle) < lacks es (s .chains)
 
+-- 15 is not broken: no list is, and the free slots are enough
+pub record Covered (es : List Entry) (s : Shape) : Type 0 where
+  pub short : (l : ℕ) → l < length es → length (chainAt s l) ≤ entryAt es l .limit
+  pub spare : lacks es (s .chains) ≤ length (s .idle)
+
+-- 16: the lowest list whose stored length is not its sequence's
+pub record LowestMiscounted (es : List Entry) (cs : List (List ℕ)) (l : ℕ) : Type 0 where
+  pub below : l < length es
+  pub wrong : entryAt es l .length ≢ length (getD cs l [])
+  pub lowest : (k : ℕ) → k < l → entryAt es k .length ≡ length (getD cs k [])
+
+-- 16, where no list is: the stored count of the free slots is not their sequence's. Then L stands for the list
+pub record FreeMiscounted (es : List Entry) (free : Free) (s : Shape) (l : ℕ) : Type 0 where
+  pub all : l ≡ length es
+  pub right : (k : ℕ) → k < length es → entryAt es k .length ≡ length (chainAt s k)
+  pub wrong : free .count ≢ length (s .idle)
+
 -- ---- the first fault: its rule, its list and its position, 0 where none applies
 
 -- in the pool over the entries of its L lists
@@ -86,6 +103,8 @@ pub data PoolBreaks (E : Engine) (links : E .Links) (values : List ℕ) (es : Li
       → PoolBreaks E links values es free f
   fifteen : {l : ℕ} {s : Shape} → f ≡ fault 15 l 0 → NullZero E links values → AllChained E links es free s → NoneMissing (E .size links) s → AllWiped values s
       → LowestOver es (s .chains) l ⊎ SharesUncovered es s l → PoolBreaks E links values es free f
+  sixteen : {l : ℕ} {s : Shape} → f ≡ fault 16 l 0 → NullZero E links values → AllChained E links es free s → NoneMissing (E .size links) s → AllWiped values s → Covered es s
+      → LowestMiscounted es (s .chains) l ⊎ FreeMiscounted es free s l → PoolBreaks E links values es free f
 
 -- and 9, what 01 says of L, the shares and the limits, before all others
 pub data Breaks (E : Engine) (links : E .Links) (values : List ℕ) (b : AnyBook) (f : Fault) : Type 0 where

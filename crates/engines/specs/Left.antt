@@ -11,7 +11,7 @@ use Rattle.shapes.specs.declared.End.the-variants.{Front, Back}
 use Rattle.shapes.specs.Moves.{Move, check, askLength, pushBack, pushFront, popBack, popFront, readForward, readBackward, clear}
 use Rattle.engines.specs.Calls.{setupCall, lengthCall, pushCall, popCall, clearCall, readCall}
 use Rattle.engines.specs.Moves.{State, left, numberOf, after}
-use Rattle.engines.specs.Trial.{TwoWay, trial, twoWay, pool, sameState}
+use Rattle.engines.specs.Trial.{TwoWay, trial, twoWay, countedPool, pool, sameState}
 use Rattle.engines.specs.Turns.{trialP3}
 
 -- ---- calls on a pool
@@ -29,10 +29,10 @@ turn state move number value leaves = record { state = state; move = move; numbe
 
 -- N = 3 and one list with share 0 and limit 2: slot 1 is free or holds a value, and slot 2 is free behind it
 abbrev noneHeld : State trial
-noneHeld = pool (0 ∷ 2 ∷ 0 ∷ []) (0 ∷ 0 ∷ 0 ∷ []) (0 ∷ 0 ∷ 0 ∷ []) 1 (entry 0 0 0 2 ∷ none 7) 1
+noneHeld = pool (0 ∷ 2 ∷ 0 ∷ []) (0 ∷ 0 ∷ 0 ∷ []) (0 ∷ 0 ∷ 0 ∷ []) 1 (entry 0 0 0 2 0 ∷ none 7) 1
 
 abbrev oneHeld : ℕ → State trial
-oneHeld value = pool (0 ∷ 0 ∷ 0 ∷ []) (0 ∷ 0 ∷ 0 ∷ []) (0 ∷ value ∷ 0 ∷ []) 1 (entry 1 1 0 2 ∷ none 7) 2
+oneHeld value = pool (0 ∷ 0 ∷ 0 ∷ []) (0 ∷ 0 ∷ 0 ∷ []) (0 ∷ value ∷ 0 ∷ []) 1 (entry 1 1 0 2 1 ∷ none 7) 2
 
 -- the whole value goes in, and comes out; then the slot holds 0
 abbrev throughBoth : ℕ → List CallCase
@@ -44,20 +44,20 @@ throughBoth value =
     ∷ turn (oneHeld value) (clear 0) 0 0 noneHeld
     ∷ []
 
--- P3's lists, with other ends of list 0 and of list 1
-abbrev ends : ℕ → ℕ → ℕ → ℕ → List Entry
-ends head tail head′ tail′ = entry head tail 2 5 ∷ entry head′ tail′ 1 3 ∷ none 6
+-- P3's lists, with other ends and lengths of list 0 and of list 1
+abbrev ends : ℕ → ℕ → ℕ → ℕ → ℕ → ℕ → List Entry
+ends head tail many head′ tail′ many′ = entry head tail 2 5 many ∷ entry head′ tail′ 1 3 many′ ∷ none 6
 
 abbrev six : ℕ → ℕ → ℕ → ℕ → ℕ → ℕ → List ℕ
 six a b c d e f = a ∷ b ∷ c ∷ d ∷ e ∷ f ∷ []
 
 -- P3 and one value in list 1, all values with all bits
 abbrev full : State trial
-full = pool (six 0 2 4 1 0 0) (six 0 3 1 0 2 0) (six 0 allBits allBits allBits allBits allBits) 2 (ends 3 4 5 5) 0
+full = pool (six 0 2 4 1 0 0) (six 0 3 1 0 2 0) (six 0 allBits allBits allBits allBits allBits) 2 (ends 3 4 4 5 5 1) 0
 
 -- list 0 has slots 3, 1 and 2, and list 1 has slots 5 and 4
 abbrev otherHeld : State trial
-otherHeld = pool (six 0 2 0 1 0 4) (six 0 3 1 0 5 0) (six 0 20 30 10 70 60) 2 (ends 3 2 5 4) 0
+otherHeld = pool (six 0 2 0 1 0 4) (six 0 3 1 0 5 0) (six 0 20 30 10 70 60) 2 (ends 3 2 3 5 4 2) 0
 
 -- N = 5 and eight lists: list 3 has slot 1, list 7 has slots 2 and 3, and slot 4 is free
 abbrev eightEntries : Entry → Entry → List Entry
@@ -67,7 +67,7 @@ abbrev five : ℕ → ℕ → ℕ → ℕ → ℕ → List ℕ
 five a b c d e = a ∷ b ∷ c ∷ d ∷ e ∷ []
 
 abbrev lastHeld : State trial
-lastHeld = pool (five 0 0 3 0 0) (five 0 0 0 2 0) (five 0 10 20 30 0) 8 (eightEntries (entry 1 1 0 2) (entry 2 3 0 3)) 4
+lastHeld = pool (five 0 0 3 0 0) (five 0 0 0 2 0) (five 0 10 20 30 0) 8 (eightEntries (entry 1 1 0 2 1) (entry 2 3 0 3 2)) 4
 
 abbrev joinedAll : List (List CallCase) → List CallCase
 joinedAll [] = []
@@ -75,13 +75,20 @@ joinedAll (ts ∷ more) = ts ++ joinedAll more
 
 -- P3 with a value in slot 0, which is not sound; with a value cell too few; and a list at its limit
 abbrev damaged : State trial
-damaged = pool (six 0 2 4 1 0 0) (six 0 3 1 0 2 0) (six 1 20 30 10 40 0) 2 (ends 3 4 0 0) 5
+damaged = pool (six 0 2 4 1 0 0) (six 0 3 1 0 2 0) (six 1 20 30 10 40 0) 2 (ends 3 4 4 0 0 0) 5
 
 abbrev uneven : State trial
-uneven = pool (six 0 2 4 1 0 0) (six 0 3 1 0 2 0) (0 ∷ 20 ∷ 30 ∷ 10 ∷ 40 ∷ []) 2 (ends 3 4 0 0) 5
+uneven = pool (six 0 2 4 1 0 0) (six 0 3 1 0 2 0) (0 ∷ 20 ∷ 30 ∷ 10 ∷ 40 ∷ []) 2 (ends 3 4 4 0 0 0) 5
+
+-- with a stored length, or a free count, that is wrong
+abbrev miscounted : State trial
+miscounted = countedPool (six 0 2 4 1 0 0) (six 0 3 1 0 2 0) (six 0 20 30 10 40 0) 2 (ends 3 4 4 0 0 65535) 5 1
+
+abbrev freeMiscounted : State trial
+freeMiscounted = countedPool (six 0 2 4 1 0 0) (six 0 3 1 0 2 0) (six 0 20 30 10 40 0) 2 (ends 3 4 4 0 0 0) 5 65535
 
 abbrev atLimit : State trial
-atLimit = pool (0 ∷ 0 ∷ []) (0 ∷ 0 ∷ []) (0 ∷ 5 ∷ []) 1 (entry 1 1 0 1 ∷ none 7) 0
+atLimit = pool (0 ∷ 0 ∷ []) (0 ∷ 0 ∷ []) (0 ∷ 5 ∷ []) 1 (entry 1 1 0 1 1 ∷ none 7) 0
 
 -- whatever is asked of it, it is refused by the number, hands out 0 and stays
 abbrev staysBy : ℕ → State trial → ℕ → List CallCase
@@ -91,28 +98,28 @@ abbrev pub turns : List CallCase
 turns =
     joinedAll (map throughBoth (0 ∷ allBits ∷ edgeBits))
     -- 01: "The slot's value becomes 0 and the slot becomes the free head, its link the old free head", at either end
-    ++ turn trialP3 (popFront 0) 0 10 (pool (six 0 2 4 5 0 0) (six 0 0 1 0 2 0) (six 0 20 30 0 40 0) 2 (ends 1 4 0 0) 3)
-    ∷ turn trialP3 (popBack 0) 0 40 (pool (six 0 2 0 1 5 0) (six 0 3 1 0 0 0) (six 0 20 30 10 0 0) 2 (ends 3 2 0 0) 4)
-    ∷ turn full (popFront 1) 0 allBits (pool (six 0 2 4 1 0 0) (six 0 3 1 0 2 0) (six 0 allBits allBits allBits allBits 0) 2 (ends 3 4 0 0) 5)
+    ++ turn trialP3 (popFront 0) 0 10 (pool (six 0 2 4 5 0 0) (six 0 0 1 0 2 0) (six 0 20 30 0 40 0) 2 (ends 1 4 3 0 0 0) 3)
+    ∷ turn trialP3 (popBack 0) 0 40 (pool (six 0 2 0 1 5 0) (six 0 3 1 0 0 0) (six 0 20 30 10 0 0) 2 (ends 3 2 3 0 0 0) 4)
+    ∷ turn full (popFront 1) 0 allBits (pool (six 0 2 4 1 0 0) (six 0 3 1 0 2 0) (six 0 allBits allBits allBits allBits 0) 2 (ends 3 4 4 0 0 0) 5)
     -- "Clear: equals popping the front until the list is empty": the slots are free, the last one first, and each holds 0; the other list has its own
-    ∷ turn full (clear 0) 0 0 (pool (six 0 3 1 0 2 0) (six 0 0 0 0 0 0) (six 0 0 0 0 0 allBits) 2 (ends 0 0 5 5) 4)
-    ∷ turn full (clear 1) 0 0 (pool (six 0 2 4 1 0 0) (six 0 3 1 0 2 0) (six 0 allBits allBits allBits allBits 0) 2 (ends 3 4 0 0) 5)
+    ∷ turn full (clear 0) 0 0 (pool (six 0 3 1 0 2 0) (six 0 0 0 0 0 0) (six 0 0 0 0 0 allBits) 2 (ends 0 0 0 5 5 1) 4)
+    ∷ turn full (clear 1) 0 0 (pool (six 0 2 4 1 0 0) (six 0 3 1 0 2 0) (six 0 allBits allBits allBits allBits 0) 2 (ends 3 4 4 0 0 0) 5)
     ∷ turn trialP3 (clear 1) 0 0 trialP3
-    ∷ turn otherHeld (clear 1) 0 0 (pool (six 0 2 0 1 5 0) (six 0 3 1 0 0 0) (six 0 20 30 10 0 0) 2 (ends 3 2 0 0) 4)
-    ∷ turn otherHeld (popBack 1) 0 70 (pool (six 0 2 0 1 0 0) (six 0 3 1 0 0 0) (six 0 20 30 10 0 60) 2 (ends 3 2 5 5) 4)
+    ∷ turn otherHeld (clear 1) 0 0 (pool (six 0 2 0 1 5 0) (six 0 3 1 0 0 0) (six 0 20 30 10 0 0) 2 (ends 3 2 3 0 0 0) 4)
+    ∷ turn otherHeld (popBack 1) 0 70 (pool (six 0 2 0 1 0 0) (six 0 3 1 0 0 0) (six 0 20 30 10 0 60) 2 (ends 3 2 3 5 5 1) 4)
     -- the last of eight lists
-    ∷ turn lastHeld (pushBack 7 40) 0 0 (pool (five 0 0 3 4 0) (five 0 0 0 2 3) (five 0 10 20 30 40) 8 (eightEntries (entry 1 1 0 2) (entry 2 4 0 3)) 0)
-    ∷ turn lastHeld (pushFront 7 40) 0 0 (pool (five 0 0 3 0 2) (five 0 0 4 2 0) (five 0 10 20 30 40) 8 (eightEntries (entry 1 1 0 2) (entry 4 3 0 3)) 0)
-    ∷ turn lastHeld (popBack 7) 0 30 (pool (five 0 0 0 4 0) (five 0 0 0 0 0) (five 0 10 20 0 0) 8 (eightEntries (entry 1 1 0 2) (entry 2 2 0 3)) 3)
-    ∷ turn lastHeld (popFront 7) 0 20 (pool (five 0 0 4 0 0) (five 0 0 0 0 0) (five 0 10 0 30 0) 8 (eightEntries (entry 1 1 0 2) (entry 3 3 0 3)) 2)
-    ∷ turn lastHeld (clear 7) 0 0 (pool (five 0 0 4 2 0) (five 0 0 0 0 0) (five 0 10 0 0 0) 8 (eightEntries (entry 1 1 0 2) (entry 0 0 0 3)) 3)
-    ∷ turn lastHeld (popBack 3) 0 10 (pool (five 0 4 3 0 0) (five 0 0 0 2 0) (five 0 0 20 30 0) 8 (eightEntries (entry 0 0 0 2) (entry 2 3 0 3)) 1)
+    ∷ turn lastHeld (pushBack 7 40) 0 0 (pool (five 0 0 3 4 0) (five 0 0 0 2 3) (five 0 10 20 30 40) 8 (eightEntries (entry 1 1 0 2 1) (entry 2 4 0 3 3)) 0)
+    ∷ turn lastHeld (pushFront 7 40) 0 0 (pool (five 0 0 3 0 2) (five 0 0 4 2 0) (five 0 10 20 30 40) 8 (eightEntries (entry 1 1 0 2 1) (entry 4 3 0 3 3)) 0)
+    ∷ turn lastHeld (popBack 7) 0 30 (pool (five 0 0 0 4 0) (five 0 0 0 0 0) (five 0 10 20 0 0) 8 (eightEntries (entry 1 1 0 2 1) (entry 2 2 0 3 1)) 3)
+    ∷ turn lastHeld (popFront 7) 0 20 (pool (five 0 0 4 0 0) (five 0 0 0 0 0) (five 0 10 0 30 0) 8 (eightEntries (entry 1 1 0 2 1) (entry 3 3 0 3 1)) 2)
+    ∷ turn lastHeld (clear 7) 0 0 (pool (five 0 0 4 2 0) (five 0 0 0 0 0) (five 0 10 0 0 0) 8 (eightEntries (entry 1 1 0 2 1) (entry 0 0 0 3 0)) 3)
+    ∷ turn lastHeld (popBack 3) 0 10 (pool (five 0 4 3 0 0) (five 0 0 0 2 0) (five 0 0 20 30 0) 8 (eightEntries (entry 0 0 0 2 0) (entry 2 3 0 3 2)) 1)
     -- "take the slot at the free head"; the other list keeps what it has
-    ∷ turn trialP3 (pushBack 1 allBits) 0 0 (pool (six 0 2 4 1 0 0) (six 0 3 1 0 2 0) (six 0 20 30 10 40 allBits) 2 (ends 3 4 5 5) 0)
-    ∷ turn trialP3 (pushFront 1 60) 0 0 (pool (six 0 2 4 1 0 0) (six 0 3 1 0 2 0) (six 0 20 30 10 40 60) 2 (ends 3 4 5 5) 0)
+    ∷ turn trialP3 (pushBack 1 allBits) 0 0 (pool (six 0 2 4 1 0 0) (six 0 3 1 0 2 0) (six 0 20 30 10 40 allBits) 2 (ends 3 4 4 5 5 1) 0)
+    ∷ turn trialP3 (pushFront 1 60) 0 0 (pool (six 0 2 4 1 0 0) (six 0 3 1 0 2 0) (six 0 20 30 10 40 60) 2 (ends 3 4 4 5 5 1) 0)
     -- at a list that has slots: behind the tail, and before the head
-    ∷ turn (oneHeld 8) (pushBack 0 9) 0 0 (pool (0 ∷ 2 ∷ 0 ∷ []) (0 ∷ 0 ∷ 1 ∷ []) (0 ∷ 8 ∷ 9 ∷ []) 1 (entry 1 2 0 2 ∷ none 7) 0)
-    ∷ turn (oneHeld 8) (pushFront 0 9) 0 0 (pool (0 ∷ 0 ∷ 1 ∷ []) (0 ∷ 2 ∷ 0 ∷ []) (0 ∷ 8 ∷ 9 ∷ []) 1 (entry 2 1 0 2 ∷ none 7) 0)
+    ∷ turn (oneHeld 8) (pushBack 0 9) 0 0 (pool (0 ∷ 2 ∷ 0 ∷ []) (0 ∷ 0 ∷ 1 ∷ []) (0 ∷ 8 ∷ 9 ∷ []) 1 (entry 1 2 0 2 2 ∷ none 7) 0)
+    ∷ turn (oneHeld 8) (pushFront 0 9) 0 0 (pool (0 ∷ 0 ∷ 1 ∷ []) (0 ∷ 2 ∷ 0 ∷ []) (0 ∷ 8 ∷ 9 ∷ []) 1 (entry 2 1 0 2 2 ∷ none 7) 0)
     -- "A refused pop returns value 0"; "the book comes back as it went in. No lent slice changes"
     ∷ turn trialP3 (pushBack 0 50) 7 0 trialP3
     ∷ turn trialP3 (pushFront 0 50) 7 0 trialP3
@@ -123,7 +130,7 @@ turns =
     ∷ turn full (pushBack 1 9) 7 0 full
     ∷ turn atLimit (pushBack 0 9) 6 0 atLimit
     ∷ turn atLimit (pushFront 0 9) 6 0 atLimit
-    ∷ joinedAll (map (λ l. staysBy 10 damaged l ++ staysBy 1 uneven l) (0 ∷ 1 ∷ 9 ∷ []))
+    ∷ joinedAll (map (λ l. staysBy 10 damaged l ++ staysBy 1 uneven l ++ staysBy 16 miscounted l ++ staysBy 16 freeMiscounted l) (0 ∷ 1 ∷ 9 ∷ []))
 
 -- the value that a call hands out
 abbrev valueOf : State trial → Move → ℕ
@@ -235,7 +242,7 @@ notSetUp lists shares limits number =
       shares = shares;
       limits = limits;
       number = number;
-      leaves = pool (other .next) (other .previous) (replicate 6 allBits) 0 (none 8) 0;
+      leaves = countedPool (other .next) (other .previous) (replicate 6 allBits) 0 (none 8) 0 0;
     }
 
 -- refused by 1: so many values for six links
@@ -248,7 +255,7 @@ noPool values =
       shares = replicate 8 0;
       limits = replicate 8 0;
       number = 1;
-      leaves = pool (other .next) (other .previous) (replicate values allBits) 0 (none 8) 0;
+      leaves = countedPool (other .next) (other .previous) (replicate values allBits) 0 (none 8) 0 0;
     }
 
 -- a done one. 01: "links 1 to 2, 2 to 3, and so on, the last 0; all values 0; free head 1; lists empty. It ignores and overwrites what was there"
@@ -279,17 +286,17 @@ setups =
     ∷ noPool 5
     ∷ noPool 7
     -- "share ≤ limit ≤ N-1 for each list"
-    ∷ setUpTo 2 (eight 2 1) (eight 5 3) (entry 0 0 2 5 ∷ entry 0 0 1 3 ∷ none 6)
-    ∷ setUpTo 2 (eight 2 1) (eight 2 1) (entry 0 0 2 2 ∷ entry 0 0 1 1 ∷ none 6)
+    ∷ setUpTo 2 (eight 2 1) (eight 5 3) (entry 0 0 2 5 0 ∷ entry 0 0 1 3 0 ∷ none 6)
+    ∷ setUpTo 2 (eight 2 1) (eight 2 1) (entry 0 0 2 2 0 ∷ entry 0 0 1 1 0 ∷ none 6)
     ∷ notSetUp 2 (eight 2 1) (eight 1 3) 2
     ∷ notSetUp 2 (eight 2 1) (eight 5 0) 2
     ∷ notSetUp 2 (eight 2 1) (eight 6 3) 2
     ∷ notSetUp 2 (eight 2 1) (eight 5 6) 2
     -- "the shares add up to at most N-1". "Setup with limits 5 and 3: shares 2 and 3 give 0, shares 3 and 3 give 2"
-    ∷ setUpTo 2 (eight 2 3) (eight 5 3) (entry 0 0 2 5 ∷ entry 0 0 3 3 ∷ none 6)
+    ∷ setUpTo 2 (eight 2 3) (eight 5 3) (entry 0 0 2 5 0 ∷ entry 0 0 3 3 0 ∷ none 6)
     ∷ notSetUp 2 (eight 3 3) (eight 5 3) 2
-    ∷ setUpTo 1 (eight 5 0) (eight 5 0) (entry 0 0 5 5 ∷ none 7)
-    ∷ setUpTo 5 (replicate 5 1 ++ replicate 3 0) (replicate 5 1 ++ replicate 3 0) (replicate 5 (entry 0 0 1 1) ++ none 3)
+    ∷ setUpTo 1 (eight 5 0) (eight 5 0) (entry 0 0 5 5 0 ∷ none 7)
+    ∷ setUpTo 5 (replicate 5 1 ++ replicate 3 0) (replicate 5 1 ++ replicate 3 0) (replicate 5 (entry 0 0 1 1 0) ++ none 3)
     ∷ notSetUp 6 (replicate 6 1 ++ replicate 2 0) (replicate 6 1 ++ replicate 2 0) 2
     -- "entries from L on are all 0": a share or a limit at L, and past it
     ∷ notSetUp 1 (eight 2 1) (eight 5 3) 2
@@ -297,7 +304,7 @@ setups =
     ∷ notSetUp 1 (eight 2 0) (eight 5 3) 2
     ∷ joinedSetups (map (λ l. notSetUp l (only l 1) (replicate 8 0) 2 ∷ notSetUp l (replicate 8 0) (only l 1) 2 ∷ notSetUp 1 (only l 1) (only l 1) 2 ∷ []) (numbersFrom 1 7))
     -- list l alone has a share and a limit, up to N-1
-    ++ joinedSetups (map (λ l. setUpTo 8 (only l 5) (only l 5) (set (none 8) l (entry 0 0 5 5)) ∷ notSetUp 8 (only l 6) (only l 6) 2 ∷ notSetUp 8 (only l 2) (only l 1) 2 ∷ []) (numbersFrom 0 8))
+    ++ joinedSetups (map (λ l. setUpTo 8 (only l 5) (only l 5) (set (none 8) l (entry 0 0 5 5 0)) ∷ notSetUp 8 (only l 6) (only l 6) 2 ∷ notSetUp 8 (only l 2) (only l 1) 2 ∷ []) (numbersFrom 0 8))
     -- bit by bit: L, a limit, a share past L and a limit past L
     ++ map (λ b. notSetUp (8 + b) (replicate 8 0) (replicate 8 0) 2) wordBits
     ++ map (λ b. notSetUp 8 (replicate 8 0) (only 7 (5 + b)) 2) wordBits

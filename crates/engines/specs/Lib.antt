@@ -1,6 +1,7 @@
 -- What a reader of the calls believes, whatever the links are: what an engine is, what a sound pool is, the calls, when each number is given, and what a done call leaves.
 pub mod Engine
 pub mod Sound
+pub mod Counted
 pub mod Laws
 pub mod Conditions
 pub mod Check

@@ -11,6 +11,7 @@ use Rattle.chains.specs.Chain.{cell}
 use Rattle.shapes.specs.declared.End.{End}
 use Rattle.shapes.specs.declared.End.the-variants.{Front}
 use Rattle.engines.specs.Engine.{Engine, Step}
+use Rattle.engines.specs.Counted.{countedPop}
 
 -- is the number a slot of a pool with so many links and so many values?
 unfoldable pub isSlot : ℕ → ℕ → ℕ → Bool
@@ -41,7 +42,7 @@ module _ (E : Engine) (end : End) (links : E .Links) (values : List ℕ) (start 
 unfoldable pub clearOn : (E : Engine) → ℕ → E .Links → List ℕ → Entry → Free → Step (E .Links)
 clearOn E zero links values list free = record { done = true; value = 0; entry = list; free = free; links = links; values = values }
 clearOn E (suc count) links values list free =
-    let gone = E .pop Front links values list free in
+    let gone = countedPop E Front links values list free in
     cond (gone .done)
     (clearOn E count (gone .links) (gone .values) (gone .entry) (gone .free))
     (record { done = false; value = 0; entry = gone .entry; free = gone .free; links = gone .links; values = gone .values })

@@ -1,4 +1,4 @@
--- 01: "A ten-by-nine table says which number each call can give." "Every answer agrees with its row." 02 b) adds its columns. Over any engine.
+-- 01: "A ten-by-nine table says which number each call can give." "Every answer agrees with its row." 02 b) and c) add their columns. Over any engine.
 use mathlib.Core.Path.{_≡_}
 use mathlib.Core.Bool.{true}
 use mathlib.Core.List.{List}

@@ -1,4 +1,4 @@
--- What it is for a pool with its book to be sound: document 01, "The pool and the book", clause by clause, over any engine. It is a definition, not the check's algorithm.
+-- What it is for a pool with its book to be sound: document 01, "The pool and the book", clause by clause, and 02 c)'s counts, over any engine. It is a definition, not the check's algorithm.
 use mathlib.Core.Path.{_≡_}
 use mathlib.Core.Bool.{true}
 use mathlib.Core.List.{List, _++_}
@@ -51,13 +51,16 @@ pub record Sound (E : Engine) (links : E .Links) (values : List ℕ) (es : List 
   pub short : (l : ℕ) → l < length es → length (chainAt s l) ≤ entryAt es l .limit
   -- 01: "the free slots are at least the sum of what each list lacks of its share"
   pub spare : lacks es (s .chains) ≤ length (s .idle)
+  -- 02 c): each stored count "equals its sequence's length"
+  pub counted : (l : ℕ) → l < length es → entryAt es l .length ≡ length (chainAt s l)
+  pub freeCounted : free .count ≡ length (s .idle)
 
 -- 01's book: the rules on L, shares and limits, and the pool sound over the first L entries
 pub record SoundBook (E : Engine) (links : E .Links) (values : List ℕ) (b : AnyBook) (s : Shape) : Type 0 where
   pub rules : BookRules (E .size links) b
   pub pool : Sound E links values (take (b .lists) (b .entries)) (b .free) s
 
--- the cells hold the list `xs` and the idle chain `fs`, whatever the other lists are
+-- the cells hold the list `xs` and the idle chain `fs`, whatever the other lists and the stored counts are
 pub record Held (E : Engine) (links : E .Links) (values : List ℕ) (list : Entry) (free : Free) (xs fs : List ℕ) : Type 0 where
   pub even : E .even links ≡ true
   pub same : E .size links ≡ length values

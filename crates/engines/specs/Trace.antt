@@ -3,13 +3,15 @@ use mathlib.Core.Path.{_≡_}
 use mathlib.Core.Logic.{_↔_, _≢_}
 use mathlib.Core.Bool.{cond}
 use mathlib.Core.List.{List}
-use Prim.Native.Nat.{ℕ, _+_, _≤_, _<_}
+use Prim.Native.Nat.{ℕ, _+_, _-_, _≤_, _<_}
 use lib.Dec.{eqb}
 use lib.ListN.{length, getD, set, take}
 use Rattle.books.specs.Book.{nullSlot, zeroEntry, entryAt, AnyBook}
+use Rattle.books.specs.Tabulate.{tabulate}
 use Rattle.chains.specs.Count.{count}
 use Rattle.shapes.specs.Ends.{contents}
 use Rattle.shapes.specs.Shape.{Shape, chainAt, joinedUp, lacks}
+use Rattle.shapes.specs.Setup.{addedUp}
 use Rattle.shapes.specs.Moves.{Move, pushBack, pushFront}
 use Rattle.shapes.specs.Ledger.{Ledger, nothingNoted, notedDone}
 use Rattle.engines.specs.Engine.{Engine}
@@ -41,6 +43,9 @@ module _ (E : Engine) (places lists : ℕ) (shares limits : List ℕ) where
     pub granted : (l : ℕ) → l < lists → (entryAt (st .book .entries) l .share ≡ getD shares l 0) × (entryAt (st .book .entries) l .limit ≡ getD limits l 0)
     -- "A list holds its pushes done less its pops done since the setup or its last clear": as many, and these values in this order
     pub holds : (l : ℕ) → l < lists → length (chainAt s l) + ledger .pops l ≡ ledger .pushes l
+    -- 02 c): and so says the book; the free count is N-1 less what all lists hold
+    pub lengths : (l : ℕ) → l < lists → entryAt (st .book .entries) l .length + ledger .pops l ≡ ledger .pushes l
+    pub freeCount : st .book .free .count + addedUp (tabulate lists (λ l. ledger .pushes l - ledger .pops l)) + 1 ≡ E .size (st .links)
     pub sequence : (l : ℕ) → l < lists → contents (st .values) (chainAt s l) ≡ ledger .held l
     -- "slots from 1 on that no list holds are free"
     pub freed : (y : ℕ) → nullSlot < y → y < E .size (st .links) → count y (joinedUp (s .chains)) ≡ 0 → count y (s .idle) ≡ 1
@@ -56,5 +61,5 @@ module _ (E : Engine) (places lists : ℕ) (shares limits : List ℕ) where
     pub seven : (l value : ℕ) → l < lists
         → let Tight = (length (chainAt s l) < getD limits l 0) × (getD shares l 0 ≤ length (chainAt s l)) × (length (s .idle) ≤ othersLack (st .book) s l) in
         (numberOf E st (pushBack l value) ≡ 7 ↔ Tight) × (numberOf E st (pushFront l value) ≡ 7 ↔ Tight)
-    -- no call of a trace is refused by 1, or by one of 9 to 15
-    pub never : (m : Move) → (numberOf E st m ≢ 1) × ((k : ℕ) → 9 ≤ k → k ≤ 15 → numberOf E st m ≢ k)
+    -- no call of a trace is refused by 1, or by one of 9 to 16
+    pub never : (m : Move) → (numberOf E st m ≢ 1) × ((k : ℕ) → 9 ≤ k → k ≤ 16 → numberOf E st m ≢ k)

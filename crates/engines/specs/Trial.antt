@@ -1,8 +1,8 @@
 -- An engine to compute with: two link slices, each slot's next and previous one. It is here so that the cases of `Edges` and `Turns` stand beside the definitions that they pin. No code runs it, and no law speaks of it.
 use mathlib.Core.Path.{_≡_}
 use mathlib.Core.Bool.{Bool, cond, not, _&&_}
-use mathlib.Core.List.{List, _∷_}
-use Prim.Native.Nat.{ℕ, _+_}
+use mathlib.Core.List.{List, [], _∷_}
+use Prim.Native.Nat.{ℕ, _+_, _-_}
 use lib.Dec.{ltb, eqb}
 use lib.ListN.{length, set}
 use Rattle.books.specs.declared.Free.{Free}
@@ -55,7 +55,7 @@ pushStep end links values list free value =
       done = not (eqb slot nullSlot);
       value = 0;
       entry = cond (eqb near nullSlot) (withBoth slot list) (withNear end slot list);
-      free = record { head = cell (links .next) slot };
+      free = record { head = cell (links .next) slot; count = free .count };
       links = made end (setSlot (inward end links) slot near) (setSlot (setSlot (outward end links) near slot) slot nullSlot);
       values = setSlot values slot value;
     }
@@ -70,7 +70,7 @@ popStep end links values list free =
       done = not (eqb slot nullSlot);
       value = cell values slot;
       entry = cond (eqb near nullSlot) (emptied list) (withNear end near list);
-      free = record { head = slot };
+      free = record { head = slot; count = free .count };
       links = twoWay (setSlot (rest .next) slot (free .head)) (setSlot (rest .previous) slot nullSlot);
       values = setSlot values slot wipeWord;
     }
@@ -98,14 +98,23 @@ trial =
 
 -- ---- how the cases are written
 
--- the next and the previous links, the values, L, the entries and the free head, in a book of eight
+-- the next and the previous links, the values, L, the entries, the free head and the free count, in a book of eight
+abbrev pub countedPool : List ℕ → List ℕ → List ℕ → ℕ → List Entry → ℕ → ℕ → State trial
+countedPool next previous values lists entries free count =
+    record { links = twoWay next previous; values = values; book = record { places = 8; lists = lists; entries = entries; free = record { head = free; count = count } } }
+
+-- what the stored lengths add up to
+abbrev lengthsOf : List Entry → ℕ
+lengthsOf [] = 0
+lengthsOf (e ∷ es) = e .length + lengthsOf es
+
+-- the same with the free count that is left of N-1 by the stored lengths: it is right where they are
 abbrev pub pool : List ℕ → List ℕ → List ℕ → ℕ → List Entry → ℕ → State trial
-pool next previous values lists entries free =
-    record { links = twoWay next previous; values = values; book = record { places = 8; lists = lists; entries = entries; free = record { head = free } } }
+pool next previous values lists entries free = countedPool next previous values lists entries free (length next - 1 - lengthsOf entries)
 
 -- every word of a book with any number of places
 abbrev pub bookWords : AnyBook → List ℕ
-bookWords b = b .places ∷ b .lists ∷ b .free .head ∷ entryWords (b .entries)
+bookWords b = b .places ∷ b .lists ∷ b .free .head ∷ b .free .count ∷ entryWords (b .entries)
 
 -- every cell and every word is the same
 abbrev pub sameState : State trial → State trial → Bool

@@ -45,7 +45,7 @@ readsAt l places at = readForward l (replicate places 7) at ∷ readBackward l (
 
 -- 01's P3: of two lists, shares 2 and 1, limits 5 and 3, list 0 has slots 3, 1, 2 and 4, list 1 none, and slot 5 is free
 abbrev trialEntries : List Entry
-trialEntries = entry 3 4 2 5 ∷ entry 0 0 1 3 ∷ none 6
+trialEntries = entry 3 4 2 5 4 ∷ entry 0 0 1 3 0 ∷ none 6
 
 abbrev pub trialP3 : State trial
 trialP3 = pool (0 ∷ 2 ∷ 4 ∷ 1 ∷ 0 ∷ 0 ∷ []) (0 ∷ 3 ∷ 1 ∷ 0 ∷ 2 ∷ 0 ∷ []) (0 ∷ 20 ∷ 30 ∷ 10 ∷ 40 ∷ 0 ∷ []) 2 trialEntries 5
@@ -73,7 +73,7 @@ ones =
     ++ allGive 1 (ofSizes 4097 4097 4097) (check ∷ askLength 9 ∷ [])
     -- two slots and 4,096 are a pool, of which 9 is said, or 0
     ++ asked (broken 9 0 0) (ofSizes 2 2 2) check
-    ∷ asked sound (free 1 (entry 0 0 0 1 ∷ none 7)) check
+    ∷ asked sound (free 1 (entry 0 0 0 1 0 ∷ none 7)) check
     ∷ asked (broken 9 0 0) (pool (replicate 4096 0) (replicate 4096 0) (replicate 4096 0) 0 (none 8) 1) check
     ∷ []
 
@@ -101,11 +101,11 @@ listNumbers =
     ++ allGive 5 trialP3 (pops 1)
     ++ allGive 0 trialP3 (pops 0)
     ++ allGive 5 (free 8 (none 8)) (pops 7)
-    ++ allGive 0 (pool (0 ∷ 0 ∷ []) (0 ∷ 0 ∷ []) (0 ∷ 0 ∷ []) 8 (none 7 ++ entry 1 1 0 1 ∷ []) 0) (pops 7)
+    ++ allGive 0 (pool (0 ∷ 0 ∷ []) (0 ∷ 0 ∷ []) (0 ∷ 0 ∷ []) 8 (none 7 ++ entry 1 1 0 1 1 ∷ []) 0) (pops 7)
 
 -- N = 3 and eight lists: list l has slot 1, with this share and limit; list k has nothing, with that share and limit; slot 2 is free
 abbrev withOne : ℕ → ℕ → ℕ → ℕ → ℕ → ℕ → State trial
-withOne l share limit k share′ limit′ = pool (0 ∷ 0 ∷ 0 ∷ []) (0 ∷ 0 ∷ 0 ∷ []) (0 ∷ 8 ∷ 0 ∷ []) 8 (set (set (none 8) l (entry 1 1 share limit)) k (entry 0 0 share′ limit′)) 2
+withOne l share limit k share′ limit′ = pool (0 ∷ 0 ∷ 0 ∷ []) (0 ∷ 0 ∷ 0 ∷ []) (0 ∷ 8 ∷ 0 ∷ []) 8 (set (set (none 8) l (entry 1 1 share limit 1)) k (entry 0 0 share′ limit′ 0)) 2
 
 -- another list than l
 abbrev other : ℕ → ℕ
@@ -137,16 +137,16 @@ twoFree es = pool (0 ∷ 0 ∷ 3 ∷ 0 ∷ []) (replicate 4 0) (0 ∷ 8 ∷ 0 �
 abbrev pub pushNumbers : List Asked
 pushNumbers =
     -- the sum of what two lists lack, and one slot more
-    allGive 7 (twoFree (entry 1 1 0 3 ∷ entry 0 0 1 3 ∷ entry 0 0 1 3 ∷ none 5)) (pushes 0)
-    ++ allGive 0 (threeFree (entry 1 1 0 3 ∷ entry 0 0 1 3 ∷ entry 0 0 1 3 ∷ none 5)) (pushes 0)
-    ++ allGive 7 (twoFree (entry 1 1 1 3 ∷ entry 0 0 0 3 ∷ entry 0 0 2 3 ∷ none 5)) (pushes 0 ++ pushes 1)
+    allGive 7 (twoFree (entry 1 1 0 3 1 ∷ entry 0 0 1 3 0 ∷ entry 0 0 1 3 0 ∷ none 5)) (pushes 0)
+    ++ allGive 0 (threeFree (entry 1 1 0 3 1 ∷ entry 0 0 1 3 0 ∷ entry 0 0 1 3 0 ∷ none 5)) (pushes 0)
+    ++ allGive 7 (twoFree (entry 1 1 1 3 1 ∷ entry 0 0 0 3 0 ∷ entry 0 0 2 3 0 ∷ none 5)) (pushes 0 ++ pushes 1)
     -- a list below its share is served, though the free slots are just what the lists lack
-    ++ allGive 0 (twoFree (entry 1 1 2 3 ∷ entry 0 0 1 3 ∷ none 6)) (pushes 0 ++ pushes 1)
-    ++ allGive 0 (twoFree (entry 1 1 3 3 ∷ none 7)) (pushes 0)
+    ++ allGive 0 (twoFree (entry 1 1 2 3 1 ∷ entry 0 0 1 3 0 ∷ none 6)) (pushes 0 ++ pushes 1)
+    ++ allGive 0 (twoFree (entry 1 1 3 3 1 ∷ none 7)) (pushes 0)
     -- no slot is free and none is lacked: 7 under the limit, 6 at it
-    ++ allGive 7 (pool (0 ∷ 0 ∷ []) (0 ∷ 0 ∷ []) (0 ∷ 5 ∷ []) 2 (entry 1 1 0 1 ∷ entry 0 0 0 1 ∷ none 6) 0) (pushes 1)
-    ++ allGive 6 (pool (0 ∷ 0 ∷ []) (0 ∷ 0 ∷ []) (0 ∷ 5 ∷ []) 2 (entry 1 1 0 1 ∷ entry 0 0 0 1 ∷ none 6) 0) (pushes 0)
-    ++ allGive 6 (pool (0 ∷ 0 ∷ []) (0 ∷ 0 ∷ []) (0 ∷ 5 ∷ []) 2 (entry 1 1 1 1 ∷ none 7) 0) (pushes 0 ++ pushes 1)
+    ++ allGive 7 (pool (0 ∷ 0 ∷ []) (0 ∷ 0 ∷ []) (0 ∷ 5 ∷ []) 2 (entry 1 1 0 1 1 ∷ entry 0 0 0 1 0 ∷ none 6) 0) (pushes 1)
+    ++ allGive 6 (pool (0 ∷ 0 ∷ []) (0 ∷ 0 ∷ []) (0 ∷ 5 ∷ []) 2 (entry 1 1 0 1 1 ∷ entry 0 0 0 1 0 ∷ none 6) 0) (pushes 0)
+    ++ allGive 6 (pool (0 ∷ 0 ∷ []) (0 ∷ 0 ∷ []) (0 ∷ 5 ∷ []) 2 (entry 1 1 1 1 1 ∷ none 7) 0) (pushes 0 ++ pushes 1)
     -- P4: "One slot is free and list 1 lacks one"
     ++ allGive 7 trialP3 (pushes 0)
     ++ allGive 0 trialP3 (pushes 1)

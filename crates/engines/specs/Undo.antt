@@ -37,6 +37,9 @@ module _ (E : Engine) where
     pub sequence : (l : ℕ) → l < before .book .lists → contents (after .values) (chainAt is l) ≡ contents (before .values) (chainAt was l)
     pub lengths : (l : ℕ) → l < before .book .lists → length (chainAt is l) ≡ length (chainAt was l)
     pub free : length (is .idle) ≡ length (was .idle)
+    -- 02 c): and so say the stored counts
+    pub stored : (l : ℕ) → l < before .book .lists → entryAt (after .book .entries) l .length ≡ entryAt (before .book .entries) l .length
+    pub freeCount : after .book .free .count ≡ before .book .free .count
 
   -- the weaker law: the call is done, hands out the value, and each list's sequence of values, each length and the number of free slots are as before
   pub record HeldAgain (before : State E) (value : ℕ) (r : Called E) : Type 0 where

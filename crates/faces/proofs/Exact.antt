@@ -23,7 +23,7 @@ use Rattle.faces.proofs.Kept.{kept-done, kept-refused}
 
 -- ---- said once for the calls that change the pool
 
-module _ (links values words : List ℕ) (h : length words ≡ 34) where
+module _ (links values words : List ℕ) (h : length words ≡ 43) where
   -- the words at exit are those of the book, which a refused call returns as it went in
   same-words : (number : ℕ) (b : Book) → (number ≢ 0 → b ≡ bookFrom words) → kept number words b ≡ wordsOf b
   same-words number b f = go (ℕ-discrete number 0)
@@ -86,10 +86,10 @@ module _ (links values : List ℕ) where
       pub face-push-front-refused : pushFrontFace links values words l value .answer .number ≢ 0 → NotChanged links values words (pushFrontFace links values words l value)
       face-push-front-refused = change-not links values words (pushCall xor links values b l Front value) (push-refused xor links values b l Front value)
 
-      pub push-back-same : length words ≡ 34 → SameChange (pushBackOf links values (bookFrom words) l value) (pushBackFace links values words l value)
+      pub push-back-same : length words ≡ 43 → SameChange (pushBackOf links values (bookFrom words) l value) (pushBackFace links values words l value)
       push-back-same h = change-same links values words h (pushCall xor links values b l Back value) (push-refused xor links values b l Back value)
 
-      pub push-front-same : length words ≡ 34 → SameChange (pushFrontOf links values (bookFrom words) l value) (pushFrontFace links values words l value)
+      pub push-front-same : length words ≡ 43 → SameChange (pushFrontOf links values (bookFrom words) l value) (pushFrontFace links values words l value)
       push-front-same h = change-same links values words h (pushCall xor links values b l Front value) (push-refused xor links values b l Front value)
 
     pub face-pop-back-refused : popBackFace links values words l .answer .number ≢ 0 → NotPopped links values words (popBackFace links values words l)
@@ -98,16 +98,16 @@ module _ (links values : List ℕ) where
     pub face-pop-front-refused : popFrontFace links values words l .answer .number ≢ 0 → NotPopped links values words (popFrontFace links values words l)
     face-pop-front-refused = pop-not links values words (popCall xor links values b l Front) (pop-refused xor links values b l Front)
 
-    pub pop-back-same : length words ≡ 34 → SamePop (popBackOf links values (bookFrom words) l) (popBackFace links values words l)
+    pub pop-back-same : length words ≡ 43 → SamePop (popBackOf links values (bookFrom words) l) (popBackFace links values words l)
     pop-back-same h = pop-same links values words h (popCall xor links values b l Back) (pop-refused xor links values b l Back)
 
-    pub pop-front-same : length words ≡ 34 → SamePop (popFrontOf links values (bookFrom words) l) (popFrontFace links values words l)
+    pub pop-front-same : length words ≡ 43 → SamePop (popFrontOf links values (bookFrom words) l) (popFrontFace links values words l)
     pop-front-same h = pop-same links values words h (popCall xor links values b l Front) (pop-refused xor links values b l Front)
 
     pub face-clear-refused : clearFace links values words l .answer .number ≢ 0 → NotChanged links values words (clearFace links values words l)
     face-clear-refused = change-not links values words (clearCall xor links values b l) (clear-refused xor links values b l)
 
-    pub clear-same : length words ≡ 34 → SameChange (clearOf links values (bookFrom words) l) (clearFace links values words l)
+    pub clear-same : length words ≡ 43 → SameChange (clearOf links values (bookFrom words) l) (clearFace links values words l)
     clear-same h = change-same links values words h (clearCall xor links values b l) (clear-refused xor links values b l)
 
     module _ (buffer : List ℕ) (at : ℕ) where

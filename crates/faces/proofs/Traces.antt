@@ -68,9 +68,9 @@ module _ (links values : List ℕ) (b : AnyBook) (l : ℕ) where
   unfolding clearCall
   clear-entries = decided-ind _ _ (λ (r : Called xor). length (r .book .entries) ≡ length (b .entries)) (listTests xor links values b l) (λ k. refl) (λ k. simp length-set)
 
--- words that are a book's with eight entries: there are 34, and the book is told from them
+-- words that are a book's with eight entries: there are 43, and the book is told from them
 module _ {words : List ℕ} (b : Book) (e : words ≡ wordsOf b) (n : length (b .entries) ≡ 8) where
-  all-words : length words ≡ 34
+  all-words : length words ≡ 43
   all-words = ap length e ∙ words-length b n
 
   told-book : bookFrom words ≡ b
@@ -81,12 +81,12 @@ module _ {words : List ℕ} (b : Book) (e : words ≡ wordsOf b) (n : length (b 
 same-pool : {links values : List ℕ} {b b′ : Book} → b ≡ b′ → _≡_ {A = Pool} (record { links = links; values = values; book = b }) (record { links = links; values = values; book = b′ })
 same-pool {links} {values} e = λ i. record { links = links; values = values; book = e i }
 
--- what a call leaves: 34 words, and with the book that they are the pool that the call by name leaves
+-- what a call leaves: 43 words, and with the book that they are the pool that the call by name leaves
 pub record AfterCall (m : Memory) (move : Move) : Type 0 where
-  pub words : length (memoryAfter m move .words) ≡ 34
+  pub words : length (memoryAfter m move .words) ≡ 43
   pub pool : poolOf (memoryAfter m move) ≡ poolAfter (poolOf m) move
 
-module _ (m : Memory) (h : length (m .words) ≡ 34) where
+module _ (m : Memory) (h : length (m .words) ≡ 43) where
   many : length (eight (bookFrom (m .words)) .entries) ≡ 8
   many = entries-many (m .words)
 
@@ -154,7 +154,7 @@ face-names-fault m move =
 -- ---- a trace of the C functions is a trace of the ten calls by name
 
 module _ {lists : ℕ} {shares limits : List ℕ} where
-  pub face-trace : {m : Memory} {ledger : Ledger} → FaceTrace lists shares limits m ledger → (length (m .words) ≡ 34) × PoolTrace lists shares limits (poolOf m) ledger
+  pub face-trace : {m : Memory} {ledger : Ledger} → FaceTrace lists shares limits m ledger → (length (m .words) ≡ 43) × PoolTrace lists shares limits (poolOf m) ledger
   face-trace (started links values words z) =
       let b = setupOf links values lists shares limits .answer .book in
       let e = kept-done _ words b z in
@@ -229,7 +229,7 @@ demand-3-of-c {lists} {shares} {limits} {m} {ledger} t =
     let (s, D) = demand-3-named T in
     (s, demand h D, λ l b. face-list m (D .sound) l (omega (arith, D .asMany)) (record { shape = s; sound = D .sound; listed = omega (arith, D .asMany); holds = D .sequence l b }))
   where
-    demand : length (m .words) ≡ 34 → {s : Shape} → Demand3 xor mostLists lists shares limits (stateOf (poolOf m)) ledger s → FaceDemand3 lists shares limits m ledger s
+    demand : length (m .words) ≡ 43 → {s : Shape} → Demand3 xor mostLists lists shares limits (stateOf (poolOf m)) ledger s → FaceDemand3 lists shares limits m ledger s
     demand h {s} D =
         record {
           allWords = h;
@@ -237,6 +237,8 @@ demand-3-of-c {lists} {shares} {limits} {m} {ledger} t =
           asMany = D .asMany;
           granted = λ l b. (sym (ap (λ (e : Entry). e .share) (there l b)) ∙ D .granted l b .0, sym (ap (λ (e : Entry). e .limit) (there l b)) ∙ D .granted l b .1);
           holds = D .holds;
+          lengths = λ l b. omega (arith, D .lengths l b, ap (λ (e : Entry). e .length) (there l b));
+          freeCount = D .freeCount;
           sequence = D .sequence;
           freed = D .freed;
           wiped = λ y low high none. D .sound .pool .wiped y (omega (arith, D .freed y low high none));

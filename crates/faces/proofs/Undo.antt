@@ -35,7 +35,7 @@ use Rattle.faces.proofs.Traces.{poolOf, AfterCall, memory-told, returne
 
 -- ---- the four pairs of functions
 
-module _ (links values words : List ℕ) (h : length words ≡ 34) (l : ℕ) where
+module _ (links values words : List ℕ) (h : length words ≡ 43) (l : ℕ) where
   abbrev m : Memory
   m = record { links = links; values = values; words = words }
 
@@ -158,14 +158,14 @@ module _ (links values words : List ℕ) where
 
 -- ---- in a trace
 
--- memory with 34 words is told from the pool that it holds
+-- memory with 43 words is told from the pool that it holds
 abbrev memoryFrom : Pool → Memory
 memoryFrom p = record { links = p .links; values = p .values; words = wordsOf (p .book) }
 
-told-back : (m : Memory) → length (m .words) ≡ 34 → memoryFrom (poolOf m) ≡ m
+told-back : (m : Memory) → length (m .words) ≡ 43 → memoryFrom (poolOf m) ≡ m
 told-back m h = λ i. record { links = m .links; values = m .values; words = words-kept (m .words) h i }
 
-module _ (m : Memory) (h : length (m .words) ≡ 34) (call back : Move) where
+module _ (m : Memory) (h : length (m .words) ≡ 43) (call back : Move) where
   first : AfterCall m call
   first = memory-told m h call
 
@@ -175,7 +175,7 @@ module _ (m : Memory) (h : length (m .words) ≡ 34) (call back : Move) where
   then : poolOf (memoryAfter (memoryAfter m call) back) ≡ poolAfter (poolAfter (poolOf m) call) back
   then = there .pool ∙ ap (λ (p : Pool). poolAfter p back) (first .pool)
 
-module _ {m : Memory} (h : length (m .words) ≡ 34) {ledger : Ledger} {l : ℕ} {call back : Move} where
+module _ {m : Memory} (h : length (m .words) ≡ 43) {ledger : Ledger} {l : ℕ} {call back : Move} where
   pair-in-words : PoolNoted (poolOf m) ledger l call back → MemoryNoted m ledger l call back
   pair-in-words U = record { doneToo = second ∙ U .doneToo; account = (λ i. cond (eqb (second i) 0) (notedDone back (once i)) (once i)) ∙ U .account }
     where

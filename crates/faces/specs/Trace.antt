@@ -3,7 +3,7 @@ use mathlib.Core.Path.{_≡_}
 use mathlib.Core.Logic.{_↔_, _≢_}
 use mathlib.Core.Bool.{cond}
 use mathlib.Core.List.{List, [], _∷_, _++_, reverse}
-use Prim.Native.Nat.{ℕ, _+_, _*_, _≤_, _<_}
+use Prim.Native.Nat.{ℕ, _+_, _*_, _-_, _≤_, _<_}
 use lib.Dec.{eqb}
 use lib.ListN.{length, getD, take, drop}
 use Rattle.books.specs.Place.{Place, noPlace}
@@ -11,9 +11,11 @@ use Rattle.books.specs.Book.{nullSlot, wipeWord, eight}
 use Rattle.books.specs.Outcome.{Outcome}
 use Rattle.books.specs.Words.{bookFrom}
 use Rattle.chains.specs.Chain.{cell}
+use Rattle.books.specs.Tabulate.{tabulate}
 use Rattle.chains.specs.Count.{count}
 use Rattle.shapes.specs.Ends.{contents}
 use Rattle.shapes.specs.Shape.{Shape, chainAt, joinedUp}
+use Rattle.shapes.specs.Setup.{addedUp}
 use Rattle.shapes.specs.Moves.{Move, check, askLength, pushBack, pushFront, popBack, popFront, readForward, readBackward, clear}
 use Rattle.shapes.specs.Ledger.{Ledger, nothingNoted, notedDone}
 use Rattle.engines.specs.Trace.{othersLack}
@@ -85,13 +87,16 @@ pub data FaceTrace (lists : ℕ) (shares limits : List ℕ) : Memory → Ledger 
 -- what demand 3 says at any point of a trace, sentence by sentence, of the numbers that the C functions return. `s` is the sound shape: the slots that each list holds, and the free ones
 pub record FaceDemand3 (lists : ℕ) (shares limits : List ℕ) (m : Memory) (ledger : Ledger) (s : Shape) : Type 0 where
   -- the words are all there, and the pool is sound by the reader's page, with the book that they are
-  pub allWords : length (m .words) ≡ 34
+  pub allWords : length (m .words) ≡ 43
   pub sound : XorBook (m .links) (m .values) (bookFrom (m .words)) s
   -- L, the shares and the limits in the words are the setup's
   pub asMany : getD (m .words) 0 0 ≡ lists
-  pub granted : (l : ℕ) → l < lists → (getD (m .words) (4 * l + 3) 0 ≡ getD shares l 0) × (getD (m .words) (4 * l + 4) 0 ≡ getD limits l 0)
+  pub granted : (l : ℕ) → l < lists → (getD (m .words) (5 * l + 3) 0 ≡ getD shares l 0) × (getD (m .words) (5 * l + 4) 0 ≡ getD limits l 0)
   -- "A list holds its pushes done less its pops done since the setup or its last clear": as many, and these values in this order
   pub holds : (l : ℕ) → l < lists → length (chainAt s l) + ledger .pops l ≡ ledger .pushes l
+  -- 02 c): and so say the words; the free count is N-1 less what all lists hold
+  pub lengths : (l : ℕ) → l < lists → getD (m .words) (5 * l + 5) 0 + ledger .pops l ≡ ledger .pushes l
+  pub freeCount : getD (m .words) 42 0 + addedUp (tabulate lists (λ l. ledger .pushes l - ledger .pops l)) + 1 ≡ length (m .links)
   pub sequence : (l : ℕ) → l < lists → contents (m .values) (chainAt s l) ≡ ledger .held l
   -- "slots from 1 on that no list holds are free"; demand 2: "Every free slot's value is zero after a done call", and after a refused one too
   pub freed : (y : ℕ) → nullSlot < y → y < length (m .links) → count y (joinedUp (s .chains)) ≡ 0 → count y (s .idle) ≡ 1
@@ -111,9 +116,9 @@ pub record FaceDemand3 (lists : ℕ) (shares limits : List ℕ) (m : Memory) (le
   pub taken : (l value : ℕ) → l < lists
       → (returned m (pushBack l value) ≢ 6 → returned m (pushBack l value) ≢ 7 → returned m (pushBack l value) ≡ 0)
       × (returned m (pushFront l value) ≢ 6 → returned m (pushFront l value) ≢ 7 → returned m (pushFront l value) ≡ 0)
-  -- the check finds it sound; no call of a trace is refused by 1, or by one of 9 to 15, and none names a place
+  -- the check finds it sound; no call of a trace is refused by 1, or by one of 9 to 16, and none names a place
   pub accepted : returned m check ≡ 0
-  pub never : (move : Move) → (returned m move ≢ 1) × ((k : ℕ) → 9 ≤ k → k ≤ 15 → returned m move ≢ k)
+  pub never : (move : Move) → (returned m move ≢ 1) × ((k : ℕ) → 9 ≤ k → k ≤ 16 → returned m move ≢ k)
   pub nowhere : (move : Move) → placeWritten m move ≡ noPlace
 
 -- what the calls give on a list of the trace that holds the values `vs`, and that a clear leaves nothing of them

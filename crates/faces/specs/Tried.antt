@@ -11,9 +11,9 @@ use Rattle.shapes.specs.Ledger.{Ledger, nothingNoted}
 use Rattle.faces.specs.Face.{Told, Shown, setupFace, lengthFace, popBackFace, popFrontFace, readForwardFace, readBackwardFace}
 use Rattle.faces.specs.Trace.{Memory, memoryPrepared, returned, placeWritten, memoryAfter, notedFor}
 
--- the words of a book with two lists, shares 2 and 1, limits 5 and 3: their heads and tails, and the free head
-abbrev twoWords : ℕ → ℕ → ℕ → ℕ → ℕ → List ℕ
-twoWords head₀ tail₀ head₁ tail₁ free = (2 ∷ head₀ ∷ tail₀ ∷ 2 ∷ 5 ∷ head₁ ∷ tail₁ ∷ 1 ∷ 3 ∷ []) ++ replicate 24 0 ++ free ∷ []
+-- the words of a book with two lists, shares 2 and 1, limits 5 and 3: their heads, tails and lengths, the free head and the free count
+abbrev twoWords : ℕ → ℕ → ℕ → ℕ → ℕ → ℕ → ℕ → ℕ → List ℕ
+twoWords head₀ tail₀ many₀ head₁ tail₁ many₁ free count = (2 ∷ head₀ ∷ tail₀ ∷ 2 ∷ 5 ∷ many₀ ∷ head₁ ∷ tail₁ ∷ 1 ∷ 3 ∷ many₁ ∷ []) ++ replicate 30 0 ++ free ∷ count ∷ []
 
 abbrev six : ℕ → ℕ → ℕ → ℕ → ℕ → ℕ → List ℕ
 six a b c d e f = a ∷ b ∷ c ∷ d ∷ e ∷ f ∷ []
@@ -28,7 +28,7 @@ sameMemory m k = sameNumbers (m .links) (k .links) && (sameNumbers (m .values) (
 
 -- P1: links 0,2,3,4,5,0 and free head 1
 abbrev pub cP1 : Memory
-cP1 = memory (six 0 2 3 4 5 0) (six 0 0 0 0 0 0) (twoWords 0 0 0 0 1)
+cP1 = memory (six 0 2 3 4 5 0) (six 0 0 0 0 0 0) (twoWords 0 0 0 0 0 0 1 5)
 
 -- a setup on memory that holds something, with the number that it returns and what it leaves
 pub record CSetup : Type 0 where
@@ -46,17 +46,17 @@ abbrev held : ℕ → Memory
 held words = memory (replicate 6 9) (replicate 6 allBits) (replicate words 9)
 
 abbrev uneven : Memory
-uneven = memory (replicate 5 9) (replicate 6 allBits) (replicate 34 9)
+uneven = memory (replicate 5 9) (replicate 6 allBits) (replicate 43 9)
 
 abbrev pub cSetups : List CSetup
 cSetups =
-    -- done, on words of any number: all 34 are stored
-    cSetup (held 34) 2 (2 ∷ 1 ∷ replicate 6 0) 0 cP1
+    -- done, on words of any number: all 43 are stored
+    cSetup (held 43) 2 (2 ∷ 1 ∷ replicate 6 0) 0 cP1
     ∷ cSetup (held 0) 2 (2 ∷ 1 ∷ replicate 6 0) 0 cP1
     ∷ cSetup (held 40) 2 (2 ∷ 1 ∷ replicate 6 0) 0 cP1
     -- refused by 2 and by 1: the lent words stay, and not the all-zero book
-    ∷ cSetup (held 34) 0 (2 ∷ 1 ∷ replicate 6 0) 2 (held 34)
-    ∷ cSetup (held 34) 2 (2 ∷ 1 ∷ 1 ∷ replicate 5 0) 2 (held 34)
+    ∷ cSetup (held 43) 0 (2 ∷ 1 ∷ replicate 6 0) 2 (held 43)
+    ∷ cSetup (held 43) 2 (2 ∷ 1 ∷ 1 ∷ replicate 5 0) 2 (held 43)
     ∷ cSetup uneven 2 (2 ∷ 1 ∷ replicate 6 0) 1 uneven
     ∷ []
 
@@ -82,30 +82,30 @@ abbrev cNamed : Memory → ℕ → ℕ → ℕ → Move → CTurn
 cNamed m rule list position move = record { move = move; number = rule; place = record { list = list; position = position }; left = m }
 
 abbrev pub cP2 : Memory
-cP2 = memory (six 0 1 1 1 5 0) (six 0 20 30 10 0 0) (twoWords 3 2 0 0 4)
+cP2 = memory (six 0 1 1 1 5 0) (six 0 20 30 10 0 0) (twoWords 3 2 3 0 0 0 4 2)
 
 abbrev pub cP3 : Memory
-cP3 = memory (six 0 1 5 1 2 0) (six 0 20 30 10 40 0) (twoWords 3 4 0 0 5)
+cP3 = memory (six 0 1 5 1 2 0) (six 0 20 30 10 40 0) (twoWords 3 4 4 0 0 0 5 1)
 
 abbrev cP5 : Memory
-cP5 = memory (six 0 1 5 1 2 0) (six 0 20 30 10 40 60) (twoWords 3 4 5 5 0)
+cP5 = memory (six 0 1 5 1 2 0) (six 0 20 30 10 40 60) (twoWords 3 4 4 5 5 1 0 0)
 
 abbrev cP6 : Memory
-cP6 = memory (six 0 2 5 0 2 0) (six 0 20 30 0 40 60) (twoWords 1 4 5 5 3)
+cP6 = memory (six 0 2 5 0 2 0) (six 0 20 30 0 40 60) (twoWords 1 4 3 5 5 1 3 1)
 
 abbrev cP7 : Memory
-cP7 = memory (six 0 2 5 5 2 3) (six 0 20 30 61 40 60) (twoWords 1 4 5 3 0)
+cP7 = memory (six 0 2 5 5 2 3) (six 0 20 30 61 40 60) (twoWords 1 4 3 5 3 2 0 0)
 
 abbrev cleared : Memory
-cleared = memory (six 0 0 1 5 2 3) (six 0 0 0 61 0 60) (twoWords 0 0 5 3 4)
+cleared = memory (six 0 0 1 5 2 3) (six 0 0 0 61 0 60) (twoWords 0 0 0 5 3 2 4 3)
 
 abbrev cPopped : Memory
-cPopped = memory (six 0 0 1 4 2 0) (six 0 0 0 0 0 60) (twoWords 0 0 5 5 3)
+cPopped = memory (six 0 0 1 4 2 0) (six 0 0 0 0 0 60) (twoWords 0 0 0 5 5 1 3 4)
 
 abbrev pub cTurns : List CTurn
 cTurns =
-    cTurn (pushBack 0 20) 0 (memory (six 0 0 3 4 5 0) (six 0 20 0 0 0 0) (twoWords 1 1 0 0 2))
-    ∷ cTurn (pushBack 0 30) 0 (memory (six 0 2 1 4 5 0) (six 0 20 30 0 0 0) (twoWords 1 2 0 0 3))
+    cTurn (pushBack 0 20) 0 (memory (six 0 0 3 4 5 0) (six 0 20 0 0 0 0) (twoWords 1 1 1 0 0 0 2 4))
+    ∷ cTurn (pushBack 0 30) 0 (memory (six 0 2 1 4 5 0) (six 0 20 30 0 0 0) (twoWords 1 2 2 0 0 0 3 3))
     ∷ cTurn (pushFront 0 10) 0 cP2
     ∷ cTurn (pushBack 0 40) 0 cP3
     -- P4: one slot is free, and list 1 lacks one
@@ -139,7 +139,7 @@ everyCall = check ∷ askLength 0 ∷ pushBack 1 60 ∷ pushFront 9 60 ∷ popBa
 
 -- P3 with another free head in its words: it is not sound, and every call leaves it
 abbrev pub cDamaged : Memory
-cDamaged = memory (six 0 1 5 1 2 0) (six 0 20 30 10 40 0) (twoWords 3 4 0 0 4)
+cDamaged = memory (six 0 1 5 1 2 0) (six 0 20 30 10 40 0) (twoWords 3 4 4 0 0 0 4 1)
 
 abbrev pub cRefused : List CTurn
 cRefused = map (cNamed cDamaged 12 0 0) everyCall
@@ -150,14 +150,14 @@ abbrev pub cUndone : List CTurn
 cUndone =
     cTurn (pushBack 0 40) 0 cP3
     ∷ cTurn (popBack 0) 0 cP2
-    ∷ cTurn (pushFront 0 70) 0 (memory (six 0 1 1 5 3 0) (six 0 20 30 10 70 0) (twoWords 4 2 0 0 5))
+    ∷ cTurn (pushFront 0 70) 0 (memory (six 0 1 1 5 3 0) (six 0 20 30 10 70 0) (twoWords 4 2 4 0 0 0 5 1))
     ∷ cTurn (popFront 0) 0 cP2
     -- the list has its share, and the one free slot is another's: it gets 7, and yet what was popped goes back
     ∷ cTurn (pushBack 0 40) 0 cP3
     ∷ cTurn (pushBack 0 50) 7 cP3
     ∷ cTurn (popBack 0) 0 cP2
     ∷ cTurn (pushBack 0 40) 0 cP3
-    ∷ cTurn (popFront 0) 0 (memory (six 0 2 5 5 2 0) (six 0 20 30 0 40 0) (twoWords 1 4 0 0 3))
+    ∷ cTurn (popFront 0) 0 (memory (six 0 2 5 5 2 0) (six 0 20 30 0 40 0) (twoWords 1 4 3 0 0 0 3 2))
     ∷ cTurn (pushFront 0 10) 0 cP3
     -- the last free slot, and a list that is empty
     ∷ cTurn (pushFront 1 60) 0 cP5
@@ -166,14 +166,14 @@ cUndone =
 
 -- list 1 at its limit: it gets 6, and yet what was popped goes back
 abbrev pub cFull : Memory
-cFull = memory (six 0 2 2 2 5 0) (six 0 11 12 13 0 0) (twoWords 0 0 1 3 4)
+cFull = memory (six 0 2 2 2 5 0) (six 0 11 12 13 0 0) (twoWords 0 0 0 1 3 3 4 2)
 
 abbrev pub cAtLimit : List CTurn
 cAtLimit =
     cTurn (pushBack 1 14) 6 cFull
-    ∷ cTurn (popBack 1) 0 (memory (six 0 2 1 4 5 0) (six 0 11 12 0 0 0) (twoWords 0 0 1 2 3))
+    ∷ cTurn (popBack 1) 0 (memory (six 0 2 1 4 5 0) (six 0 11 12 0 0 0) (twoWords 0 0 0 1 2 2 3 3))
     ∷ cTurn (pushBack 1 13) 0 cFull
-    ∷ cTurn (popFront 1) 0 (memory (six 0 4 3 2 5 0) (six 0 0 12 13 0 0) (twoWords 0 0 2 3 1))
+    ∷ cTurn (popFront 1) 0 (memory (six 0 4 3 2 5 0) (six 0 0 12 13 0 0) (twoWords 0 0 0 2 3 2 1 3))
     ∷ cTurn (pushFront 1 11) 0 cFull
     ∷ []
 
@@ -195,7 +195,7 @@ cTurnsPass m (c ∷ cs) =
     && (eqb (placeWritten m (c .move) .position) (c .place .position)
     && (sameMemory (memoryAfter m (c .move)) (c .left) && cTurnsPass (memoryAfter m (c .move)) cs)))
 
--- ---- 02 b)
+-- ---- 02 b) and c)
 
 -- pools of six slots, each with another rule broken first: every call names it with its place, and leaves everything
 pub record CBroken : Type 0 where
@@ -210,21 +210,27 @@ cBroken rule list position memory = record { memory = memory; rule = rule; list 
 abbrev pub cBrokenPools : List CBroken
 cBrokenPools =
     -- three lists, where the third has a limit and the book says two
-    cBroken 9 0 0 (memory (six 0 1 5 1 2 0) (six 0 20 30 10 40 0) ((2 ∷ 3 ∷ 4 ∷ 2 ∷ 5 ∷ 0 ∷ 0 ∷ 1 ∷ 3 ∷ 0 ∷ 0 ∷ 0 ∷ 1 ∷ []) ++ replicate 20 0 ++ 5 ∷ []))
-    ∷ cBroken 10 0 0 (memory (six 1 1 5 1 2 0) (six 0 20 30 10 40 0) (twoWords 3 4 0 0 5))
-    ∷ cBroken 10 0 0 (memory (six 0 1 5 1 2 0) (six allBits 20 30 10 40 0) (twoWords 3 4 0 0 5))
+    cBroken 9 0 0 (memory (six 0 1 5 1 2 0) (six 0 20 30 10 40 0) ((2 ∷ 3 ∷ 4 ∷ 2 ∷ 5 ∷ 4 ∷ 0 ∷ 0 ∷ 1 ∷ 3 ∷ 0 ∷ 0 ∷ 0 ∷ 0 ∷ 1 ∷ 0 ∷ []) ++ replicate 25 0 ++ 5 ∷ 1 ∷ []))
+    -- the same with a length there
+    ∷ cBroken 9 0 0 (memory (six 0 1 5 1 2 0) (six 0 20 30 10 40 0) ((2 ∷ 3 ∷ 4 ∷ 2 ∷ 5 ∷ 4 ∷ 0 ∷ 0 ∷ 1 ∷ 3 ∷ 0 ∷ 0 ∷ 0 ∷ 0 ∷ 0 ∷ 1 ∷ []) ++ replicate 25 0 ++ 5 ∷ 1 ∷ []))
+    ∷ cBroken 10 0 0 (memory (six 1 1 5 1 2 0) (six 0 20 30 10 40 0) (twoWords 3 4 4 0 0 0 5 1))
+    ∷ cBroken 10 0 0 (memory (six 0 1 5 1 2 0) (six allBits 20 30 10 40 0) (twoWords 3 4 4 0 0 0 5 1))
     -- list 0 is 3, 1, 2, 4: it ends before its tail; list 1 has a tail and no head; list 1 has slot 2
-    ∷ cBroken 11 0 4 (memory (six 0 1 5 1 2 0) (six 0 20 30 10 40 0) (twoWords 3 2 0 0 5))
-    ∷ cBroken 11 1 0 (memory (six 0 1 5 1 2 0) (six 0 20 30 10 40 0) (twoWords 3 4 0 5 5))
-    ∷ cBroken 11 1 1 (memory (six 0 1 5 1 2 2) (six 0 20 30 10 40 60) (twoWords 3 4 5 5 0))
+    ∷ cBroken 11 0 4 (memory (six 0 1 5 1 2 0) (six 0 20 30 10 40 0) (twoWords 3 2 3 0 0 0 5 2))
+    ∷ cBroken 11 1 0 (memory (six 0 1 5 1 2 0) (six 0 20 30 10 40 0) (twoWords 3 4 4 0 5 0 5 1))
+    ∷ cBroken 11 1 1 (memory (six 0 1 5 1 2 2) (six 0 20 30 10 40 60) (twoWords 3 4 4 5 5 1 0 0))
     -- the free chain leaves the pool behind slot 5
-    ∷ cBroken 12 0 1 (memory (six 0 1 5 1 2 6) (six 0 20 30 10 40 0) (twoWords 3 4 0 0 5))
+    ∷ cBroken 12 0 1 (memory (six 0 1 5 1 2 6) (six 0 20 30 10 40 0) (twoWords 3 4 4 0 0 0 5 1))
     -- slot 5 is nowhere; slot 5 is free and holds one bit
-    ∷ cBroken 13 0 5 (memory (six 0 1 5 1 2 0) (six 0 20 30 10 40 0) (twoWords 3 4 0 0 0))
-    ∷ cBroken 14 0 5 (memory (six 0 1 5 1 2 0) (six 0 20 30 10 40 9223372036854775808) (twoWords 3 4 0 0 5))
+    ∷ cBroken 13 0 5 (memory (six 0 1 5 1 2 0) (six 0 20 30 10 40 0) (twoWords 3 4 4 0 0 0 0 1))
+    ∷ cBroken 14 0 5 (memory (six 0 1 5 1 2 0) (six 0 20 30 10 40 9223372036854775808) (twoWords 3 4 4 0 0 0 5 1))
     -- list 1 is over its limit of three; list 0 has all five slots, and list 1 lacks one
-    ∷ cBroken 15 1 0 (memory (six 0 1 5 1 2 0) (six 0 20 30 10 40 0) (twoWords 0 0 3 4 5))
-    ∷ cBroken 15 2 0 (memory (six 0 1 5 1 7 4) (six 0 20 30 10 40 50) (twoWords 3 5 0 0 0))
+    ∷ cBroken 15 1 0 (memory (six 0 1 5 1 2 0) (six 0 20 30 10 40 0) (twoWords 0 0 0 3 4 4 5 1))
+    ∷ cBroken 15 2 0 (memory (six 0 1 5 1 7 4) (six 0 20 30 10 40 50) (twoWords 3 5 5 0 0 0 0 0))
+    -- 02 c): the stored length of list 0, of list 1, and the free count, with others beside them
+    ∷ cBroken 16 0 0 (memory (six 0 1 5 1 2 0) (six 0 20 30 10 40 0) (twoWords 3 4 3 0 0 1 5 2))
+    ∷ cBroken 16 1 0 (memory (six 0 1 5 1 2 0) (six 0 20 30 10 40 0) (twoWords 3 4 4 0 0 32768 5 1))
+    ∷ cBroken 16 2 0 (memory (six 0 1 5 1 2 0) (six 0 20 30 10 40 0) (twoWords 3 4 4 0 0 0 5 32769))
     ∷ []
 
 abbrev pub cBrokenPass : List CBroken → Bool

@@ -54,15 +54,15 @@ module _ (links values words : List ℕ) where
     pub number : r .answer .number ≡ 0
     pub holdings : HoldingsBefore (memoryChanged r)
 
--- 02 a), its first half: after a push that returned 0, the pop at the same end of that list, on the memory that the push left. The book has 34 words, as in C
+-- 02 a), its first half: after a push that returned 0, the pop at the same end of that list, on the memory that the push left. The book has 43 words, as in C
 abbrev pub PushesUndone : Type 0
-PushesUndone = (links values words : List ℕ) → length words ≡ 34 → (l value : ℕ)
+PushesUndone = (links values words : List ℕ) → length words ≡ 43 → (l value : ℕ)
     → (let r = pushBackFace links values words l value in r .answer .number ≡ 0 → FaceTakenBack links values words value (popBackFace (r .links) (r .values) (r .answer .book) l))
     × (let r = pushFrontFace links values words l value in r .answer .number ≡ 0 → FaceTakenBack links values words value (popFrontFace (r .links) (r .values) (r .answer .book) l))
 
 -- its second half: after a pop that returned 0, and so in a sound pool, the push of its value at the same end of that list
 abbrev pub PopsUndone : Type 0
-PopsUndone = (links values words : List ℕ) → length words ≡ 34 → (l : ℕ)
+PopsUndone = (links values words : List ℕ) → length words ≡ 43 → (l : ℕ)
     → (let r = popBackFace links values words l in r .answer .number ≡ 0 → FacePutBack links values words (pushBackFace (r .links) (r .values) (r .answer .book) l (r .answer .value)))
     × (let r = popFrontFace links values words l in r .answer .number ≡ 0 → FacePutBack links values words (pushFrontFace (r .links) (r .values) (r .answer .book) l (r .answer .value)))
 

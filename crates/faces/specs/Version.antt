@@ -2,4 +2,4 @@
 use Prim.Native.Nat.{ℕ}
 
 abbrev pub faceVersion : ℕ
-faceVersion = 2
+faceVersion = 3

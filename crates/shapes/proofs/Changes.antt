@@ -16,21 +16,21 @@ use Rattle.shapes.specs.Tests.{Keeps}
 abbrev four : ℕ → ℕ → ℕ → ℕ → List ℕ
 four a b c d = a ∷ b ∷ c ∷ d ∷ []
 
--- a list's ends, share and limit
+-- a list's ends and its length, all of one number, its share and its limit
 abbrev entry : ℕ → ℕ → ℕ → Entry
-entry slot share limit = record { head = slot; tail = slot; share = share; limit = limit }
+entry slot share limit = record { head = slot; tail = slot; share = share; limit = limit; length = slot }
 
 -- two lists and room for a third
 abbrev book : Entry → Entry → AnyBook
-book e f = record { places = 3; lists = 2; entries = e ∷ f ∷ zeroEntry ∷ []; free = record { head = 1 } }
+book e f = record { places = 3; lists = 2; entries = e ∷ f ∷ zeroEntry ∷ []; free = record { head = 1; count = 5 } }
 
-pub list-changed : withList (book (entry 0 2 5) (entry 0 1 3)) 1 (entry 4 7 8) (record { head = 6 })
-    ≡ record { places = 3; lists = 2; entries = entry 0 2 5 ∷ entry 4 7 8 ∷ zeroEntry ∷ []; free = record { head = 6 } }
+pub list-changed : withList (book (entry 0 2 5) (entry 0 1 3)) 1 (entry 4 7 8) (record { head = 6; count = 7 })
+    ≡ record { places = 3; lists = 2; entries = entry 0 2 5 ∷ entry 4 7 8 ∷ zeroEntry ∷ []; free = record { head = 6; count = 7 } }
 list-changed = refl
 
 -- list 1 has other ends
 pub others-stay : OtherEntries (book (entry 0 2 5) (entry 0 1 3)) 1 (book (entry 0 2 5) (entry 4 1 3))
-others-stay = record { samePlaces = refl; sameCount = refl; sameLength = refl; others = others; share = refl; limit = refl }
+others-stay = record { samePlaces = refl; sameLists = refl; sameEntries = refl; others = others; share = refl; limit = refl }
   where
     others : (k : ℕ) → k ≢ 1 → entryAt (book (entry 0 2 5) (entry 4 1 3) .entries) k ≡ entryAt (book (entry 0 2 5) (entry 0 1 3) .entries) k
     others zero d = refl

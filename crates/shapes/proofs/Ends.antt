@@ -10,6 +10,7 @@ use Rattle.chains.proofs.Count.{count-append, count-first}
 use Rattle.shapes.specs.declared.End.{End}
 use Rattle.shapes.specs.declared.End.the-variants.{Front, Back}
 use Rattle.books.specs.declared.Entry.{Entry}
+use Rattle.shapes.specs.Counts.{withLength}
 use Rattle.shapes.specs.Ends.{newOf, nearOf, withNear, withBoth, emptied, opposite, joined, contents}
 
 pub count-joined : (end : End) (s : ℕ) (xs : List ℕ) (y : ℕ) → count y (joined end s xs) ≡ hit y s + count y xs
@@ -38,24 +39,32 @@ pub near-told : (list : Entry) → (nearOf Front list ≡ list .head) × (nearOf
 unfolding nearOf
 near-told list = (refl, refl)
 
--- another slot at an end leaves the other end, the share and the limit
+-- another slot at an end leaves the other end, the share, the limit and the stored length
 pub near-set : (end : End) (slot : ℕ) (list : Entry)
     → (nearOf end (withNear end slot list) ≡ slot) × (nearOf (opposite end) (withNear end slot list) ≡ nearOf (opposite end) list)
-    × (withNear end slot list .share ≡ list .share) × (withNear end slot list .limit ≡ list .limit)
+    × (withNear end slot list .share ≡ list .share) × (withNear end slot list .limit ≡ list .limit) × (withNear end slot list .length ≡ list .length)
 unfolding nearOf withNear
-near-set Front slot list = (refl, refl, refl, refl)
-near-set Back slot list = (refl, refl, refl, refl)
+near-set Front slot list = (refl, refl, refl, refl, refl)
+near-set Back slot list = (refl, refl, refl, refl, refl)
+
+-- the stored length is no end
+pub near-length : (end : End) (n : ℕ) (list : Entry) → nearOf end (withLength n list) ≡ nearOf end list
+unfolding nearOf
+near-length Front n list = refl
+near-length Back n list = refl
 
 pub both-set : (slot : ℕ) (list : Entry)
     → (withBoth slot list .head ≡ slot) × (withBoth slot list .tail ≡ slot) × (withBoth slot list .share ≡ list .share) × (withBoth slot list .limit ≡ list .limit)
-both-set slot list = (refl, refl, refl, refl)
+    × (withBoth slot list .length ≡ list .length)
+both-set slot list = (refl, refl, refl, refl, refl)
 
 -- 01: "an empty list has head and tail 0"
 pub emptied-told : (list : Entry) → (emptied list .head ≡ 0) × (emptied list .tail ≡ 0) × (emptied list .share ≡ list .share) × (emptied list .limit ≡ list .limit)
-emptied-told list = (refl, refl, refl, refl)
+    × (emptied list .length ≡ list .length)
+emptied-told list = (refl, refl, refl, refl, refl)
 
-pub new-empty : (share limit : ℕ) → (newOf share limit .head ≡ 0) × (newOf share limit .tail ≡ 0)
-new-empty share limit = (refl, refl)
+pub new-empty : (share limit : ℕ) → (newOf share limit .head ≡ 0) × (newOf share limit .tail ≡ 0) × (newOf share limit .length ≡ 0)
+new-empty share limit = (refl, refl, refl)
 
 -- a new list has the share and the limit that it was given
 pub new-keeps : (share limit : ℕ) → (newOf share limit .share ≡ share) × (newOf share limit .limit ≡ limit)

@@ -1,5 +1,7 @@
 -- Laws of what is true of no engine in particular.
 pub mod Numbers
+pub mod Lowest
+pub mod Counts
 pub mod Shape
 pub mod Ends
 pub mod Seen

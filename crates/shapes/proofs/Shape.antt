@@ -5,12 +5,14 @@ use mathlib.Core.List.{List, [], _∷_}
 use Prim.Native.Nat.{ℕ, zero, suc, _+_, _-_, _≤_, _<_}
 use native.Mathlib.Nat.{le-of-suc-le-suc, not-suc-le-zero}
 use native.Mathlib.Omega.{arith}
-use lib.ListN.{length, getD, set}
+use lib.ListN.{length, getD, set, length-append}
 use Rattle.books.specs.declared.Entry.{Entry}
 use Rattle.books.specs.Book.{entryAt}
+use Rattle.books.specs.Tabulate.{tabulate}
 use Rattle.chains.specs.Count.{count}
 use Rattle.chains.proofs.Count.{count-append}
-use Rattle.shapes.specs.Shape.{joinedUp, lacks}
+use Rattle.shapes.specs.Shape.{joinedUp, lacks, storedLacks}
+use Rattle.shapes.specs.Setup.{addedUp}
 
 pub joined-set : (cs : List (List ℕ)) (l : ℕ) (xs : List ℕ) (y : ℕ) → l < length cs → count y (joinedUp (set cs l xs)) + count y (getD cs l []) ≡ count y (joinedUp cs) + count y xs
 joined-set [] l xs y b = absurd (not-suc-le-zero b)
@@ -56,3 +58,19 @@ lacks-told (e ∷ es) (d ∷ es′) (xs ∷ cs) (ys ∷ cs′) n h =
     let (p, q) = h 0 (omega arith) in
     let one : e .share - length xs ≡ d .share - length ys = λ i. p i - q i in
     omega (arith, one, lacks-told es es′ cs cs′ (omega arith) (λ l b. h (suc l) (omega arith)))
+
+-- where each stored length is its sequence's, the stored lengths tell the same
+pub lacks-stored : (es : List Entry) (cs : List (List ℕ)) → length cs ≡ length es → ((l : ℕ) → l < length es → entryAt es l .length ≡ length (getD cs l [])) → storedLacks es ≡ lacks es cs
+lacks-stored [] cs n h = refl
+lacks-stored (e ∷ es) [] n h = absurd (omega arith)
+lacks-stored (e ∷ es) (xs ∷ cs) n h =
+    let one : e .share - e .length ≡ e .share - length xs = ap (λ k. e .share - k) (h 0 (omega arith)) in
+    omega (arith, one, lacks-stored es cs (omega arith) (λ l b. h (suc l) (omega arith)))
+
+-- all sequences together are as long as their lengths added up
+pub joined-length : (n : ℕ) (cs : List (List ℕ)) (f : ℕ → ℕ) → length cs ≡ n → ((l : ℕ) → l < n → length (getD cs l []) ≡ f l) → length (joinedUp cs) ≡ addedUp (tabulate n f)
+unfolding tabulate
+joined-length zero [] f n h = refl
+joined-length zero (xs ∷ cs) f n h = absurd (omega arith)
+joined-length (suc k) [] f n h = absurd (omega arith)
+joined-length (suc k) (xs ∷ cs) f n h = omega (arith, length-append xs (joinedUp cs), h 0 (omega arith), joined-length k cs (λ y. f (suc y)) (omega arith) (λ l b. h (suc l) (omega arith)))

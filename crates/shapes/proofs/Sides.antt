@@ -10,7 +10,7 @@ use lib.ListN.{getD, replicate}
 use Rattle.books.specs.declared.Entry.{Entry}
 use Rattle.shapes.specs.Met.{isMetOf, markOf, unmet}
 use Rattle.shapes.specs.Walk.{walkOn, walkable}
-use Rattle.shapes.specs.Faults.{nothingMet, spareFault, idleFault}
+use Rattle.shapes.specs.Faults.{nothingMet, countFault, spareFault, idleFault}
 use Rattle.shapes.specs.Shape.{Shape, Room, lacks}
 use Rattle.shapes.specs.Setup.{freshValue, SetupRules}
 use Rattle.shapes.specs.Sides.{pairsPass, ownNumbers, unwipedSlots, walksTried, walksPass, faultsTried, faultsPass}
@@ -26,7 +26,7 @@ unfolding isMetOf markOf unmet walkOn walkable
 all-walks-tried = refl
 
 pub all-faults-tried : faultsPass faultsTried ≡ true
-unfolding idleFault spareFault isMetOf
+unfolding idleFault spareFault countFault isMetOf
 all-faults-tried = refl
 
 -- the record has a place for each of N slots, none met; a slot with no place counts as met
@@ -44,7 +44,7 @@ fresh-values-tried = (refl, refl, refl, refl)
 
 -- a list's share and limit
 abbrev granting : ℕ → ℕ → Entry
-granting share limit = record { head = 0; tail = 0; share = share; limit = limit }
+granting share limit = record { head = 0; tail = 0; share = share; limit = limit; length = 0 }
 
 -- "share less length, or 0": below the share, at it and over it; the sum, of the first list, the last, and one with no sequence
 pub lacks-sides : (lacks (granting 2 5 ∷ []) ([] ∷ []) ≡ 2) × (lacks (granting 2 5 ∷ []) ((1 ∷ []) ∷ []) ≡ 1) × (lacks (granting 2 5 ∷ []) ((1 ∷ 2 ∷ []) ∷ []) ≡ 0)

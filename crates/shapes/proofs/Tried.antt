@@ -12,13 +12,14 @@ use Rattle.books.specs.Place.{noPlace}
 use Rattle.shapes.specs.declared.End.the-variants.{Front, Back}
 use Rattle.shapes.specs.declared.Gathered.{Gathered}
 use Rattle.shapes.specs.Ends.{joined, contents, fromEnd, endSlot}
-use Rattle.shapes.specs.Shape.{lacks}
+use Rattle.shapes.specs.Counts.{wordUp, wordDown, wordSum}
+use Rattle.shapes.specs.Shape.{lacks, storedLacks}
 use Rattle.shapes.specs.Numbers.{test, firstThat, Condition, condition, Given, this, later}
 use Rattle.shapes.proofs.Numbers.{given-only}
 use Rattle.shapes.specs.Tests.{pushOwnTests, popOwnTests, readOwnTests}
 use Rattle.shapes.specs.Met.{isMetOf}
 use Rattle.shapes.specs.Walk.{unwipedFrom}
-use Rattle.shapes.specs.Faults.{fault, noFault, placeFor, answering, naming, gatheredNone, gatherOne, gatherFault, lowestUnmet, spareFault, idleFault}
+use Rattle.shapes.specs.Faults.{fault, noFault, placeFor, answering, naming, gatheredNone, gatherOne, gatherFault, lowestUnmet, countFault, spareFault, idleFault}
 use Rattle.shapes.specs.Setup.{freshValue, freshEntry, freshShape, SetupRules}
 use Rattle.shapes.specs.Moves.{pushBack, pushFront, popBack, popFront, clear}
 use Rattle.shapes.specs.Ledger.{Ledger, nothingNoted, notedDone}
@@ -28,7 +29,11 @@ three a b c = a ∷ b ∷ c ∷ []
 
 -- a list's share and limit
 abbrev granted : ℕ → ℕ → Entry
-granted share limit = record { head = 0; tail = 0; share = share; limit = limit }
+granted share limit = record { head = 0; tail = 0; share = share; limit = limit; length = 0 }
+
+-- and its stored length
+abbrev storing : ℕ → ℕ → ℕ → Entry
+storing share limit length = record { head = 0; tail = 0; share = share; limit = limit; length = length }
 
 -- ---- the ends
 
@@ -72,18 +77,36 @@ read-tried = (refl, refl, refl, refl)
 pub lacks-tried : lacks (granted 2 5 ∷ granted 1 5 ∷ granted 3 5 ∷ []) (three 1 2 3 ∷ [] ∷ (4 ∷ []) ∷ []) ≡ 3
 lacks-tried = refl
 
--- of three lists: 0 has three slots, of share 2 and limit 3; 1 has two, of share 4 and limit 1; 2 has one, of share 0 and limit 0. The length of 1 is asked for
-abbrev gathered : Gathered
-gathered = gatherOne 1 3 2 (granted 0 0) 1 (gatherOne 1 3 1 (granted 4 1) 2 (gatherOne 1 3 0 (granted 2 3) 3 (gatheredNone 3)))
+-- from the stored lengths: more than the share, the share, less
+pub stored-lacks-tried : (storedLacks (storing 2 5 3 ∷ storing 1 5 0 ∷ storing 3 5 1 ∷ []) ≡ 3) × (storedLacks (storing 2 5 2 ∷ []) ≡ 0) × (storedLacks (storing 65535 0 0 ∷ storing 65535 0 1 ∷ []) ≡ 131069) × (storedLacks [] ≡ 0)
+stored-lacks-tried = (refl, refl, refl, refl)
 
-pub gather-tried : (gathered .live ≡ 6) × (gathered .lacks ≡ 2) × (gathered .over ≡ 1) × (gathered .length ≡ 2) × (gathered .fault ≡ noFault)
+-- of three lists: 0 has three slots, of share 2 and limit 3; 1 has two, of share 4 and limit 1; 2 has one, of share 0 and limit 0. The stored lengths of 1 and 2 are wrong
+abbrev gathered : Gathered
+gathered = gatherOne 3 2 (storing 0 0 2) 1 (gatherOne 3 1 (storing 4 1 1) 2 (gatherOne 3 0 (storing 2 3 3) 3 (gatheredNone 3)))
+
+pub gather-tried : (gathered .live ≡ 6) × (gathered .lacks ≡ 2) × (gathered .over ≡ 1) × (gathered .wrong ≡ 1) × (gathered .fault ≡ noFault)
     × (gatherFault 1 4 gathered .fault ≡ fault 11 1 4) × (gatherFault 7 4095 gathered .fault ≡ fault 11 7 4095)
 gather-tried = (refl, refl, refl, refl, refl, refl, refl)
 
--- the largest pool: one list has every slot, or lacks every one
-pub gather-largest : (gatherOne 0 1 0 (granted 4095 4095) 4095 (gatheredNone 1) .live ≡ 4095) × (gatherOne 0 1 0 (granted 4095 4095) 4095 (gatheredNone 1) .length ≡ 4095)
-    × (gatherOne 0 1 0 (granted 4095 4095) 0 (gatheredNone 1) .lacks ≡ 4095)
-gather-largest = (refl, refl, refl)
+-- the largest pool: one list has every slot, or lacks every one. Its stored length is right, one less, a bit more
+pub gather-largest : (gatherOne 1 0 (storing 4095 4095 4095) 4095 (gatheredNone 1) .live ≡ 4095) × (gatherOne 1 0 (storing 4095 4095 4095) 4095 (gatheredNone 1) .wrong ≡ 1)
+    × (gatherOne 1 0 (storing 4095 4095 4095) 0 (gatheredNone 1) .lacks ≡ 4095)
+    × (gatherOne 1 0 (storing 4095 4095 4094) 4095 (gatheredNone 1) .wrong ≡ 0) × (gatherOne 1 0 (storing 4095 4095 36863) 4095 (gatheredNone 1) .wrong ≡ 0)
+gather-largest = (refl, refl, refl, refl, refl)
+
+-- of two lists with the same fault, over the limit or with a wrong length, the first is kept, the later one's length being too large or too small; a limit of 0 hides nothing
+abbrev bothWrong : ℕ → ℕ → Gathered
+bothWrong first second = gatherOne 2 1 (storing 0 0 second) 1 (gatherOne 2 0 (storing 0 0 first) 1 (gatheredNone 2))
+
+pub lowest-kept : (bothWrong 2 0 .wrong ≡ 0) × (bothWrong 0 0 .wrong ≡ 0) × (bothWrong 0 2 .wrong ≡ 0) × (bothWrong 1 0 .wrong ≡ 1) × (bothWrong 1 1 .wrong ≡ 2) × (bothWrong 1 1 .over ≡ 0)
+    × (gatherOne 1 0 (storing 0 0 5) 0 (gatheredNone 1) .wrong ≡ 0)
+lowest-kept = (refl, refl, refl, refl, refl, refl, refl)
+
+-- a count in a word: from its least to its largest, and round
+pub words-up-and-down : (wordUp 0 ≡ 1) × (wordUp 4094 ≡ 4095) × (wordUp 65535 ≡ 0) × (wordDown 1 ≡ 0) × (wordDown 4095 ≡ 4094) × (wordDown 0 ≡ 65535)
+    × (wordSum 4095 0 ≡ 4095) × (wordSum 2 3 ≡ 5) × (wordSum 65535 1 ≡ 0)
+words-up-and-down = (refl, refl, refl, refl, refl, refl, refl, refl, refl)
 
 -- of slots 3, 1, 2, of which 1 is wiped, the lowest that is not is 2
 pub unwiped-tried : unwipedFrom (0 ∷ three 0 7 9) (three 3 1 2) 0 ≡ 2
@@ -95,9 +118,9 @@ pub unmet-tried : (lowestUnmet (0 ∷ three 1 0 0) 1 3 ≡ 2) × (lowestUnmet (0
 unfolding isMetOf
 unmet-tried = (refl, refl, refl)
 
--- what was gathered of two lists: the live slots, what is lacked, and the list over its limit, 2 for none
+-- what was gathered of two lists: the live slots, what is lacked, and the list over its limit, 2 for none. The stored length of list 1 is wrong
 abbrev found : ℕ → ℕ → ℕ → Gathered
-found live lacking over = record { fault = noFault; live = live; lacks = lacking; over = over; length = 0 }
+found live lacking over = record { fault = noFault; live = live; lacks = lacking; over = over; wrong = 1 }
 
 -- a fault's place goes with its own number and with no other, and so does the answer; the answer that names it has its rule, its list and its position
 pub fault-places-tried : (placeFor (fault 11 7 4095) 11 ≡ record { list = 7; position = 4095 }) × (placeFor (fault 11 7 4095) 12 ≡ noPlace)
@@ -106,11 +129,12 @@ pub fault-places-tried : (placeFor (fault 11 7 4095) 11 ≡ record { list = 7; p
 fault-places-tried = (refl, refl, refl, refl, refl)
 
 -- four slots, of which slot 1 alone was met: each rule in its order, where the later ones are broken too, and at last none
-pub faults-tried : (idleFault (0 ∷ three 1 0 0) 4 2 (found 1 9 1) false 1 3 ≡ fault 12 0 1) × (idleFault (0 ∷ three 1 0 0) 4 2 (found 1 9 1) true 1 3 ≡ fault 13 0 2)
-    × (idleFault (0 ∷ three 1 0 0) 4 2 (found 1 9 1) true 2 3 ≡ fault 14 0 3) × (idleFault (0 ∷ three 1 0 0) 4 2 (found 1 9 1) true 2 0 ≡ fault 15 1 0)
-    × (idleFault (0 ∷ three 1 0 0) 4 2 (found 1 3 2) true 2 0 ≡ fault 15 2 0) × (idleFault (0 ∷ three 1 0 0) 4 2 (found 1 2 2) true 2 0 ≡ noFault)
-unfolding idleFault spareFault isMetOf
-faults-tried = (refl, refl, refl, refl, refl, refl)
+pub faults-tried : (idleFault (0 ∷ three 1 0 0) 4 2 (found 1 9 1) false 1 3 5 ≡ fault 12 0 1) × (idleFault (0 ∷ three 1 0 0) 4 2 (found 1 9 1) true 1 3 5 ≡ fault 13 0 2)
+    × (idleFault (0 ∷ three 1 0 0) 4 2 (found 1 9 1) true 2 3 5 ≡ fault 14 0 3) × (idleFault (0 ∷ three 1 0 0) 4 2 (found 1 9 1) true 2 0 5 ≡ fault 15 1 0)
+    × (idleFault (0 ∷ three 1 0 0) 4 2 (found 1 3 2) true 2 0 5 ≡ fault 15 2 0) × (idleFault (0 ∷ three 1 0 0) 4 2 (found 1 2 2) true 2 0 5 ≡ fault 16 1 0)
+    × (countFault 2 2 5 2 ≡ fault 16 2 0) × (countFault 2 2 2 2 ≡ noFault)
+unfolding idleFault spareFault countFault isMetOf
+faults-tried = (refl, refl, refl, refl, refl, refl, refl, refl)
 
 -- ---- setup
 

@@ -10,15 +10,15 @@ use Rattle.books.specs.Book.{entryAt, AnyBook}
 use Rattle.shapes.specs.Shape.{Shape, chainAt}
 use Rattle.shapes.specs.Ends.{contents}
 
--- the book with another entry for list l, and another idle chain
+-- the book with another entry for list l, and another free record
 abbrev pub withList : AnyBook → ℕ → Entry → Free → AnyBook
 withList b l e free = record { places = b .places; lists = b .lists; entries = set (b .entries) l e; free = free }
 
--- in the book only list l's entry and the idle chain may change, and of the entry not its share and limit
+-- in the book only list l's entry and the free record may change, and of the entry not its share and limit
 pub record OtherEntries (b : AnyBook) (l : ℕ) (after : AnyBook) : Type 0 where
   pub samePlaces : after .places ≡ b .places
-  pub sameCount : after .lists ≡ b .lists
-  pub sameLength : length (after .entries) ≡ length (b .entries)
+  pub sameLists : after .lists ≡ b .lists
+  pub sameEntries : length (after .entries) ≡ length (b .entries)
   pub others : (k : ℕ) → k ≢ l → entryAt (after .entries) k ≡ entryAt (b .entries) k
   pub share : entryAt (after .entries) l .share ≡ entryAt (b .entries) l .share
   pub limit : entryAt (after .entries) l .limit ≡ entryAt (b .entries) l .limit

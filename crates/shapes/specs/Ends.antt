@@ -7,27 +7,27 @@ use Rattle.chains.specs.Chain.{cell, lastOr}
 use Rattle.shapes.specs.declared.End.{End}
 use Rattle.shapes.specs.declared.End.the-variants.{Front, Back}
 
--- 01: "an empty list has head and tail 0"
+-- 01: "an empty list has head and tail 0"; its length is 0
 abbrev pub newOf : ℕ → ℕ → Entry
-newOf share limit = record { head = nullSlot; tail = nullSlot; share = share; limit = limit }
+newOf share limit = record { head = nullSlot; tail = nullSlot; share = share; limit = limit; length = 0 }
 
 -- the slot at an end
 unfoldable pub nearOf : End → Entry → ℕ
 nearOf Front list = list .head
 nearOf Back list = list .tail
 
--- the list with another slot at an end
+-- the list with another slot at an end. The stored length stays, here and below: it is counted by the step that takes or releases a slot (`Counts`)
 unfoldable pub withNear : End → ℕ → Entry → Entry
-withNear Front slot list = record { head = slot; tail = list .tail; share = list .share; limit = list .limit }
-withNear Back slot list = record { head = list .head; tail = slot; share = list .share; limit = list .limit }
+withNear Front slot list = record { head = slot; tail = list .tail; share = list .share; limit = list .limit; length = list .length }
+withNear Back slot list = record { head = list .head; tail = slot; share = list .share; limit = list .limit; length = list .length }
 
 -- the list with one slot at both ends
 abbrev pub withBoth : ℕ → Entry → Entry
-withBoth slot list = record { head = slot; tail = slot; share = list .share; limit = list .limit }
+withBoth slot list = record { head = slot; tail = slot; share = list .share; limit = list .limit; length = list .length }
 
 -- the list with no slot at either end
 abbrev pub emptied : Entry → Entry
-emptied list = record { head = nullSlot; tail = nullSlot; share = list .share; limit = list .limit }
+emptied list = record { head = nullSlot; tail = nullSlot; share = list .share; limit = list .limit; length = list .length }
 
 abbrev pub opposite : End → End
 opposite Front = Back

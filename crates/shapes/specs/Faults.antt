@@ -1,5 +1,5 @@
--- The faults of a pool as the check gathers them, in the order of 02 b)'s rules 11 to 15: what runs once the walks are made.
-use mathlib.Core.Bool.{Bool, cond, _&&_}
+-- The faults of a pool as the check gathers them, in the order of 02 b)'s rules 11 to 15 and of 02 c)'s 16: what runs once the walks are made.
+use mathlib.Core.Bool.{Bool, cond, not, _&&_}
 use mathlib.Core.List.{List}
 use Prim.Native.Nat.{ℕ, zero, suc, _+_, _-_}
 use lib.Dec.{ltb, leb, eqb}
@@ -40,11 +40,15 @@ naming f = refusalOf (f .rule) (placeOf f)
 unfoldable pub nothingMet : ℕ → List ℕ
 nothingMet size = replicate size 0
 
--- and no list is over its limit
+-- and no list is over its limit, nor is a stored length wrong
 abbrev pub gatheredNone : ℕ → Gathered
-gatheredNone lists = record { fault = noFault; live = 0; lacks = 0; over = lists; length = 0 }
+gatheredNone lists = record { fault = noFault; live = 0; lacks = 0; over = lists; wrong = lists }
 
-module _ (wanted lists : ℕ) where
+-- the lowest of L lists so far of which something is so, L for none: `list` is the next, and `so` says it of this one
+abbrev pub lowestSo : ℕ → ℕ → Bool → ℕ → ℕ
+lowestSo lists list so far = cond (eqb far lists && so) list far
+
+module _ (lists : ℕ) where
   -- one list, number `list`, whose walk passed `many` slots
   abbrev pub gatherOne : ℕ → Entry → ℕ → Gathered → Gathered
   gatherOne list e many g =
@@ -52,13 +56,13 @@ module _ (wanted lists : ℕ) where
         fault = g .fault;
         live = g .live + many;
         lacks = g .lacks + (e .share - many);
-        over = cond (eqb (g .over) lists && ltb (e .limit) many) list (g .over);
-        length = cond (eqb list wanted) many (g .length);
+        over = lowestSo lists list (ltb (e .limit) many) (g .over);
+        wrong = lowestSo lists list (not (eqb (e .length) many)) (g .wrong);
       }
 
 -- rule 11: the first place of a live chain that is no fresh slot, or its length where it does not end at the tail
 abbrev pub gatherFault : ℕ → ℕ → Gathered → Gathered
-gatherFault list many g = record { fault = fault 11 list many; live = g .live; lacks = g .lacks; over = g .over; length = g .length }
+gatherFault list many g = record { fault = fault 11 list many; live = g .live; lacks = g .lacks; over = g .over; wrong = g .wrong }
 
 -- what was gathered, and the record of slots met
 pub record Round : Type 0 where
@@ -73,25 +77,29 @@ abbrev pub lowestUnmet : List ℕ → ℕ → ℕ → ℕ
 lowestUnmet met slot zero = slot
 lowestUnmet met slot (suc n) = cond (isMetOf met slot) (lowestUnmet met (suc slot) n) slot
 
--- rule 15: the lowest list over its limit, or else L where the free slots do not cover what the lists lack
-unfoldable pub spareFault : ℕ → ℕ → ℕ → ℕ → Fault
-spareFault lists over lacks free = cond (eqb over lists) (cond (leb lacks free) noFault (fault 15 lists 0)) (fault 15 over 0)
+-- rule 16: the lowest list whose stored length is wrong, or else L where the stored count of the free slots is not `free`
+unfoldable pub countFault : ℕ → ℕ → ℕ → ℕ → Fault
+countFault lists wrong stored free = cond (eqb wrong lists) (cond (eqb stored free) noFault (fault 16 lists 0)) (fault 16 wrong 0)
 
--- rules 12 to 15, once the idle chain was walked too: `met` are the slots met on all walks, `ended` whether the idle walk came to its end,
--- `free` how many slots it passed, and `unwiped` the lowest of them that is not wiped, or 0
-unfoldable pub idleFault : List ℕ → ℕ → ℕ → Gathered → Bool → ℕ → ℕ → Fault
-idleFault met size lists g ended free unwiped =
+-- rule 15: the lowest list over its limit, or else L where the free slots do not cover what the lists lack; and then a later rule's fault, or none
+unfoldable pub spareFault : ℕ → ℕ → ℕ → ℕ → Fault → Fault
+spareFault lists over lacks free later = cond (eqb over lists) (cond (leb lacks free) later (fault 15 lists 0)) (fault 15 over 0)
+
+-- rules 12 to 16, once the idle chain was walked too: `met` are the slots met on all walks, `ended` whether the idle walk came to its end,
+-- `free` how many slots it passed, `unwiped` the lowest of them that is not wiped, or 0, and `stored` the stored count of the free slots
+unfoldable pub idleFault : List ℕ → ℕ → ℕ → Gathered → Bool → ℕ → ℕ → ℕ → Fault
+idleFault met size lists g ended free unwiped stored =
     cond ended
     (cond (eqb (g .live + free + 1) size)
     (cond (eqb unwiped nullSlot)
-    (spareFault lists (g .over) (g .lacks) free)
+    (spareFault lists (g .over) (g .lacks) free (countFault lists (g .wrong) stored free))
     (fault 14 0 unwiped))
     (fault 13 0 (lowestUnmet met 1 (size - 1))))
     (fault 12 0 free)
 
 -- a fault, and nothing else was found
 abbrev pub faulty : Fault → Found
-faulty f = record { fault = f; length = 0; lacks = 0; free = 0 }
+faulty f = record { fault = f; lacks = 0 }
 
 -- a refusal before or by the check: nothing was found
 abbrev pub refusedBy : Refusal → Looked

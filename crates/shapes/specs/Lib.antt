@@ -1,6 +1,7 @@
--- What is true of no engine in particular: sequences of slots and what they amount to, the ends of a list, numbers and their order, the record of slots met, walks, faults, setup, moves and the ledger.
+-- What is true of no engine in particular: sequences of slots and what they amount to, the ends of a list, the stored counts, numbers and their order, the record of slots met, walks, faults, setup, moves and the ledger.
 pub mod Shape
 pub mod Ends
+pub mod Counts
 pub mod Changes
 pub mod Numbers
 pub mod Tests

@@ -1,4 +1,4 @@
--- 01: "Tests run in the order 1 to 8; the first that applies is given", with 02 b)'s 9 to 15 in the place of 3: for the code as tests, for a reader as conditions.
+-- 01: "Tests run in the order 1 to 8; the first that applies is given", with 02 b)'s 9 to 15 and 02 c)'s 16 in the place of 3: for the code as tests, for a reader as conditions.
 use mathlib.Core.Bool.{Bool, cond}
 use mathlib.Core.List.{List, [], _∷_}
 use Prim.Native.Nat.{ℕ}

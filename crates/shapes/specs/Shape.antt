@@ -34,6 +34,11 @@ lacks [] cs = 0
 lacks (e ∷ es) [] = e .share + lacks es []
 lacks (e ∷ es) (xs ∷ cs) = (e .share - length xs) + lacks es cs
 
+-- the same from the stored lengths
+abbrev pub storedLacks : List Entry → ℕ
+storedLacks [] = 0
+storedLacks (e ∷ es) = (e .share - e .length) + storedLacks es
+
 -- neither 6 nor 7: the list is under its limit, and has not its share or leaves enough for the others
 pub record Room (es : List Entry) (s : Shape) (l : ℕ) : Type 0 where
   pub under : length (chainAt s l) < entryAt es l .limit

@@ -29,7 +29,7 @@ pairsPass (p ∷ ps) = eqb (p .is) (p .must) && pairsPass ps
 
 -- a push on a list with this share and limit and so many slots, where so much is lacked and so many are free
 abbrev pushed : ℕ → ℕ → ℕ → ℕ → ℕ → ℕ
-pushed share limit many lacking free = firstThat (pushOwnTests (entry 0 0 share limit) many lacking free)
+pushed share limit many lacking free = firstThat (pushOwnTests (entry 0 0 share limit many) many lacking free)
 
 abbrev popped : ℕ → ℕ
 popped many = firstThat (popOwnTests many)
@@ -170,10 +170,14 @@ pub record FaultPair : Type 0 where
   pub found : Fault
   pub must : Fault
 
--- N slots, of which none is marked as met, and L lists: the live slots, what is lacked, the list over its limit, L for none, whether the free walk ended, how many are free, and the lowest that is not wiped
+-- N slots, of which none is marked as met, and L lists: the live slots, what is lacked, the list over its limit, L for none, the list whose stored length is wrong, L for none, whether the free walk ended, how many are free, the lowest that is not wiped, and the stored count of the free slots
+abbrev counts : ℕ → ℕ → ℕ → ℕ → ℕ → ℕ → Bool → ℕ → ℕ → ℕ → Fault → FaultPair
+counts size lists live lacking over wrong ended free unwiped stored must =
+    record { found = idleFault (replicate size 0) size lists (record { fault = noFault; live = live; lacks = lacking; over = over; wrong = wrong }) ended free unwiped stored; must = must }
+
+-- where every stored count is right
 abbrev gave : ℕ → ℕ → ℕ → ℕ → ℕ → Bool → ℕ → ℕ → Fault → FaultPair
-gave size lists live lacking over ended free unwiped must =
-    record { found = idleFault (replicate size 0) size lists (record { fault = noFault; live = live; lacks = lacking; over = over; length = 0 }) ended free unwiped; must = must }
+gave size lists live lacking over ended free unwiped must = counts size lists live lacking over lists ended free unwiped free must
 
 abbrev pub faultsTried : List FaultPair
 faultsTried =
@@ -209,7 +213,21 @@ faultsTried =
     ∷ gave 6 2 3 3 2 true 2 0 (fault 15 2 0)
     ∷ gave 6 2 5 1 2 true 0 0 (fault 15 2 0)
     ∷ gave 4096 8 0 4096 8 true 4095 0 (fault 15 8 0)
-    ∷ []
+    -- 16: any list whose stored length is wrong, before the free count; L, where the free count alone is, by one or by a bit
+    ∷ counts 6 2 3 2 2 0 true 2 0 2 (fault 16 0 0)
+    ∷ counts 6 2 3 2 2 1 true 2 0 2 (fault 16 1 0)
+    ∷ counts 6 8 3 2 8 7 true 2 0 3 (fault 16 7 0)
+    ∷ counts 6 2 3 2 2 2 true 2 0 3 (fault 16 2 0)
+    ∷ counts 6 2 3 2 2 2 true 2 0 1 (fault 16 2 0)
+    ∷ counts 6 8 5 0 8 8 true 0 0 1 (fault 16 8 0)
+    ∷ counts 4096 8 0 0 8 8 true 4095 0 0 (fault 16 8 0)
+    -- 12 to 15 before 16
+    ∷ counts 6 2 3 2 2 0 false 2 0 9 (fault 12 0 2)
+    ∷ counts 6 2 2 2 2 0 true 2 0 9 (fault 13 0 1)
+    ∷ counts 6 2 3 2 2 0 true 2 5 9 (fault 14 0 5)
+    ∷ counts 6 2 3 2 1 0 true 2 0 9 (fault 15 1 0)
+    ∷ counts 6 2 3 3 2 0 true 2 0 9 (fault 15 2 0)
+    ∷ map (λ b. counts 6 2 3 2 2 2 true 2 0 (2 + b) (fault 16 2 0)) wordBits
 
 abbrev pub faultsPass : List FaultPair → Bool
 faultsPass [] = true

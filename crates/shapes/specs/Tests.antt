@@ -10,7 +10,7 @@ use Rattle.books.specs.declared.Read.{Read}
 use Rattle.books.specs.declared.Refusal.{Refusal}
 use Rattle.shapes.specs.Numbers.{Test, test}
 
--- a push's own tests, 6 and 7: of a list that has `many` slots, where the check found `lacking` and `free`
+-- a push's own tests, 6 and 7: of a list that has `many` slots, where the lists lack `lacking` and `free` slots are free
 abbrev pub pushOwnTests : Entry → ℕ → ℕ → ℕ → List Test
 pushOwnTests e many lacking free =
     test 6 (eqb many (e .limit))

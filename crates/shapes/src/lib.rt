@@ -58,7 +58,8 @@ pub struct IdleWalk {
 }
 
 // The first rule that is broken, with a list and a place, 0 where none applies. Rule 0 is no fault.
-// 9 is L, shares and limits; 10 slot 0; 11 a live chain; 12 the idle chain; 13 a slot in no chain; 14 a free slot that is not wiped; 15 limits and shares.
+// 9 is L, shares and limits; 10 slot 0; 11 a live chain; 12 the idle chain; 13 a slot in no chain; 14 a free slot that is not wiped; 15 limits and shares; 16 the
+// stored counts.
 #[repr(C)]
 pub struct Fault {
     pub rule: u16,
@@ -67,25 +68,22 @@ pub struct Fault {
 }
 
 // What the walks along the lists so far have gathered: the fault, if there was one; how many slots are live; what the lists lack of
-// their shares; the lowest list over its limit, or L; and the length of the list that is asked for.
+// their shares; the lowest list over its limit, or L; and the lowest list whose stored length is not the number of its slots, or L.
 pub struct Gathered {
     pub fault: Fault,
     pub live: usize,
     pub lacks: usize,
     pub over: u16,
-    pub length: usize,
+    pub wrong: u16,
 }
 
-// What the check finds: the fault, if there is one, and else the length of the list that is asked for, what the lists lack of their
-// shares, and how many slots are free.
+// What the check finds: the fault, if there is one, and else what the lists lack of their shares. The counts are in the book.
 pub struct Found {
     pub fault: Fault,
-    pub length: usize,
     pub lacks: usize,
-    pub free: usize,
 }
 
-// A number with its place, and what the check found: nothing where the number is not 0. The number is 1, from 9 to 15, or 0.
+// A number with its place, and what the check found: nothing where the number is not 0. The number is 1, from 9 to 16, or 0.
 pub struct Looked {
     pub refusal: Refusal,
     pub found: Found,

@@ -1,11 +1,12 @@
 -- Emptying a list in one go along it equals popping its front until nothing is left, where the cells hold the list.
 use mathlib.Core.Path.{_≡_, refl, sym, ap, subst, _∙_}
 use mathlib.Core.Logic.{_≢_}
-use mathlib.Core.Bool.{true}
+use mathlib.Core.Bool.{Bool, true, false, _&&_}
 use mathlib.Core.List.{List, [], _∷_}
-use Prim.Native.Nat.{ℕ, _<_}
+use Prim.Native.Nat.{ℕ, zero, suc, _+_, _-_, _<_}
 use native.Mathlib.Omega.{arith}
 use lib.Bits.{bitXor, xor-zero-r}
+use lib.Dec.{ltb}
 use lib.ListN.{length, set, length-set}
 use lib.Seq.{getD-set-same, set-getD}
 use borrow.Author.Tests.{ne-eqb, lt-ltb}
@@ -21,10 +22,13 @@ use Rattle.shapes.specs.declared.End.the-variants.{Front}
 use Rattle.shapes.specs.declared.PopStep.{PopStep}
 use Rattle.shapes.specs.Shape.{chainAt}
 use Rattle.shapes.specs.Ends.{nearOf, withNear, emptied}
+use Rattle.shapes.specs.Counts.{withLength, withCount, wordSum}
+use Rattle.shapes.proofs.Counts.{word-sum}
 use Rattle.engines.specs.Sound.{Held}
 use Rattle.engines.specs.Reads.{clearOn}
-use Rattle.engines.specs.Calls.{foundOf, onListOf}
-use Rattle.engines.proofs.Found.{found-length}
+use Rattle.engines.specs.Calls.{onListOf}
+use Rattle.engines.proofs.Found.{stored-length, stored-free, some-slots}
+use Rattle.engines.proofs.Counted.{leaves-counted, pop-counted}
 use Rattle.engines.proofs.Steps.{book-held}
 use Rattle.engines.proofs.Popping.{set-set}
 use Rattle.engines.proofs.Looking.{on-list-sound}
@@ -44,13 +48,13 @@ popsLeave links before (x ∷ xs) = set links x (bitXor (cell links x) before)
 -- the list's entry once its first slot has left
 abbrev oneLess : Entry → List ℕ → Entry
 oneLess list [] = emptied list
-oneLess list (y ∷ ys) = record { head = y; tail = list .tail; share = list .share; limit = list .limit }
+oneLess list (y ∷ ys) = record { head = y; tail = list .tail; share = list .share; limit = list .limit; length = list .length }
 
 -- a list's first slot leaves
 module _ (links values : List ℕ) (list : Entry) (free : Free) (before x : ℕ) where
   abbrev gone : List ℕ → Outcome PopStep
   gone xs =
-      outcome (record { done = true; value = cell values x; entry = oneLess list xs; free = record { head = x } })
+      outcome (record { done = true; value = cell values x; entry = oneLess list xs; free = record { head = x; count = free .count } })
       (popsLeave (set links x (free .head)) x xs) (set values x wipeWord)
 
   module _ (xs fs : List ℕ) (H : Held xor (popsLeave links before (x ∷ xs)) values list free (x ∷ xs) fs) where
@@ -81,34 +85,65 @@ module _ (links values : List ℕ) (list : Entry) (free : Free) (before x : ℕ)
       let apart : y ≢ x = λ e. omega (arith, H .once x, count-append x (x ∷ y ∷ ys) fs, hit-same x, ap (hit x) e) in
       simp (H .entry .head, first-in (y ∷ ys) fs H, next-is (y ∷ ys) fs H, ne-eqb y nullSlot (λ e. omega arith), ne-eqb y x apart, second, set-set)
 
+-- the stored count of the free slots goes along unchanged
+abbrev recounted : ℕ → Outcome Free → Outcome Free
+recounted m r = outcome (withCount m (r .answer)) (r .links) (r .values)
+
+along-count : (n m : ℕ) (links values : List ℕ) (before slot : ℕ) (free : Free) → clearAlong n links values before slot (withCount m free) ≡ recounted m (clearAlong n links values before slot free)
+unfolding clearAlong
+along-count zero m links values before slot free = refl
+along-count (suc n) m links values before slot free =
+    go (ltb slot (length links) && ltb slot (length values)) refl (along-count n m (set links slot (free .head)) (set values slot wipeWord) slot (bitXor (cell links slot) before) (record { head = slot; count = free .count }))
+  where
+    on : ℕ → Outcome Free
+    on c = clearAlong n (set links slot (free .head)) (set values slot wipeWord) slot (bitXor (cell links slot) before) (record { head = slot; count = c })
+
+    go : (t : Bool) → ltb slot (length links) && ltb slot (length values) ≡ t → on m ≡ recounted m (on (free .count)) → clearAlong (suc n) links values before slot (withCount m free) ≡ recounted m (clearAlong (suc n) links values before slot free)
+    go true e more = rw e more
+    go false e more = rw e
+
 -- what is left of the list is emptied, with the links as the pops so far leave them
-along-left : (xs : List ℕ) {fs : List ℕ} (links values : List ℕ) (list : Entry) (free : Free) (before : ℕ) → Held xor (popsLeave links before xs) values list free xs fs
-    → clearOn xor (length xs) (popsLeave links before xs) values list free ≡ cleared list (clearAlong (length xs) links values before (firstOr 0 xs) free)
+along-left : (xs : List ℕ) {fs : List ℕ} (links values : List ℕ) (list : Entry) (free : Free) (before : ℕ) → Held xor (popsLeave links before xs) values list free xs fs → list .length ≡ length xs
+    → clearOn xor (length xs) (popsLeave links before xs) values list free ≡ cleared list (free .count + length xs) (clearAlong (length xs) links values before (firstOr 0 xs) free)
 unfolding clearOn clearAlong
-along-left [] links values list free before H =
-    λ i. record { done = true; value = 0; entry = record { head = H .entry .head i; tail = H .entry .tail i; share = list .share; limit = list .limit }; free = free; links = links; values = values }
-along-left (x ∷ xs) {fs} links values list free before H =
-    let (n, p, q) = inside links values list free before x xs fs H in
+along-left [] links values list free before H c =
+    let none : free .count ≡ free .count + 0 = omega arith in
+    λ i. record {
+      done = true;
+      value = 0;
+      entry = record { head = H .entry .head i; tail = H .entry .tail i; share = list .share; limit = list .limit; length = c i };
+      free = record { head = free .head; count = none i };
+      links = links;
+      values = values;
+    }
+along-left (x ∷ xs) {fs} links values list free before H c =
+    let (k, p, q) = inside links values list free before x xs fs H in
     let e = pop-is links values list free before x xs fs H in
+    let counted = pop-counted xor-lawful Front (popsLeave links before (x ∷ xs)) values list free x xs fs H in
     let links′ = set links x (free .head) in
     let values′ = set values x wipeWord in
-    let rest : Held xor (popsLeave links′ x xs) values′ (oneLess list xs) (record { head = x }) xs (x ∷ fs) =
-    subst (λ (r : Outcome PopStep). Held xor (r .links) (r .values) (r .answer .entry) (r .answer .free) xs (x ∷ fs)) e
-    (xor-lawful .pop Front (popsLeave links before (x ∷ xs)) values list free x xs fs H .held) in
-    rw (e, lt-ltb x (length links) p, lt-ltb x (length values) q, onto links values list free before x xs fs H)
-    (along-left xs links′ values′ (oneLess list xs) (record { head = x }) x rest ∙ same xs _)
+    let list′ = withLength (list .length - 1) (oneLess list xs) in
+    let free′ : Free = record { head = x; count = free .count + 1 } in
+    let rest : Held xor (popsLeave links′ x xs) values′ list′ free′ xs (x ∷ fs) =
+    subst (λ (r : Outcome PopStep). Held xor (r .links) (r .values) (withLength (list .length - 1) (r .answer .entry)) (withCount (free .count + 1) (r .answer .free)) xs (x ∷ fs)) e
+    (leaves-counted xor-lawful Front (popsLeave links before (x ∷ xs)) values list free x xs fs H .held) in
+    let more = along-left xs links′ values′ list′ free′ x rest (omega (arith, c)) in
+    let r = clearAlong (length xs) links′ values′ x (firstOr 0 xs) (record { head = x; count = free .count }) in
+    let shift : free .count + 1 + length xs ≡ free .count + suc (length xs) = omega arith in
+    rw (counted, e, lt-ltb x (length links) p, lt-ltb x (length values) q, onto links values list free before x xs fs H)
+    (more ∙ ap (cleared list′ (free .count + 1 + length xs)) (along-count (length xs) (free .count + 1) links′ values′ x (firstOr 0 xs) (record { head = x; count = free .count })) ∙ same xs (list .length - 1) (free .count + 1 + length xs) (free .count + 1) r ∙ ap (λ (c : ℕ). cleared list c r) shift)
   where
-    same : (xs : List ℕ) (r : Outcome Free) → cleared (oneLess list xs) r ≡ cleared list r
-    same [] r = refl
-    same (y ∷ ys) r = refl
+    same : (xs : List ℕ) (n c m : ℕ) (r : Outcome Free) → cleared (withLength n (oneLess list xs)) c (recounted m r) ≡ cleared list c r
+    same [] n c m r = refl
+    same (y ∷ ys) n c m r = refl
 
 -- 01: "Clear: equals popping the front until the list is empty"
-pub clear-along : {links values : List ℕ} {list : Entry} {free : Free} (xs : List ℕ) {fs : List ℕ} → Held xor links values list free xs fs
-    → clearOn xor (length xs) links values list free ≡ cleared list (clearAlong (length xs) links values nullSlot (list .head) free)
-clear-along {links} {values} {list} {free} xs {fs} H =
+pub clear-along : {links values : List ℕ} {list : Entry} {free : Free} (xs : List ℕ) {fs : List ℕ} → Held xor links values list free xs fs → list .length ≡ length xs
+    → clearOn xor (length xs) links values list free ≡ cleared list (free .count + length xs) (clearAlong (length xs) links values nullSlot (list .head) free)
+clear-along {links} {values} {list} {free} xs {fs} H c =
     ap (λ ls. clearOn xor (length xs) ls values list free) (begins xs)
-    ∙ along-left xs links values list free nullSlot (subst (λ ls. Held xor ls values list free xs fs) (begins xs) H)
-    ∙ ap (λ x. cleared list (clearAlong (length xs) links values nullSlot x free)) (sym (H .entry .head))
+    ∙ along-left xs links values list free nullSlot (subst (λ ls. Held xor ls values list free xs fs) (begins xs) H) c
+    ∙ ap (λ x. cleared list (free .count + length xs) (clearAlong (length xs) links values nullSlot x free)) (sym (H .entry .head))
   where
     -- before the first slot there is none
     begins : (xs : List ℕ) → links ≡ popsLeave links nullSlot xs
@@ -117,7 +152,10 @@ clear-along {links} {values} {list} {free} xs {fs} H =
 
 -- and so on a list of a pool in which the check found no fault
 pub clear-found : (links values : List ℕ) (b : AnyBook) (l : ℕ) → onListOf xor links values b l .refusal .number ≡ 0
-    → clearOn xor (foundOf xor links values b l .length) links values (entryAt (b .entries) l) (b .free)
-    ≡ cleared (entryAt (b .entries) l) (clearAlong (foundOf xor links values b l .length) links values nullSlot (entryAt (b .entries) l .head) (b .free))
+    → let e = entryAt (b .entries) l in
+    (clearOn xor (e .length) links values e (b .free) ≡ cleared e (b .free .count + e .length) (clearAlong (e .length) links values nullSlot (e .head) (b .free)))
+    × (wordSum (b .free .count) (e .length) ≡ b .free .count + e .length)
 clear-found links values b l z =
-    let (s, S, below) = on-list-sound xor links values b l xor-lawful z in rw (found-length xor-lawful S l below) (clear-along (chainAt s l) (book-held S l below))
+    let (s, S, below) = on-list-sound xor links values b l xor-lawful z in
+    let many = stored-length S l below in
+    (rw many (clear-along (chainAt s l) (book-held S l below) many), word-sum (b .free .count) (entryAt (b .entries) l .length) (omega (arith, many, stored-free S, some-slots S l, S .pool .fit .size .most)))

@@ -17,14 +17,14 @@ use Rattle.shapes.specs.Faults.{fault}
 use Rattle.engines.specs.Sound.{Fit}
 use Rattle.engines.specs.Positions.{Stand, Reached, InListBefore, WrongSlot, WrongLive, WrongIdle}
 use Rattle.engines.specs.FirstFault.{AllChained, PoolBreaks, Breaks}
-use Rattle.engines.specs.FirstFault.PoolBreaks.{ten as pool-ten, eleven as pool-eleven, twelve as pool-twelve, thirteen as pool-thirteen, fourteen as pool-fourteen, fifteen as pool-fifteen}
+use Rattle.engines.specs.FirstFault.PoolBreaks.{ten as pool-ten, eleven as pool-eleven, twelve as pool-twelve, thirteen as pool-thirteen, fourteen as pool-fourteen, fifteen as pool-fifteen, sixteen as pool-sixteen}
 use Rattle.engines.specs.FirstFault.Breaks.{nine as book-nine, later}
 use Rattle.engines.specs.Check.{checkFound}
 use Rattle.engines.proofs.FirstFault.{breaks-some, fault-exactly, only-fault, sound-unbroken}
 use Rattle.xor.specs.Engine.{xor}
 use Rattle.xor.specs.Sound.{XorBook}
 use Rattle.xor.specs.Broken.{WrongHere, WrongList, freeStand, Sequences, XorBroken}
-use Rattle.xor.specs.Broken.XorBroken.{nine, ten, eleven, twelve, thirteen, fourteen, fifteen, uncovered}
+use Rattle.xor.specs.Broken.XorBroken.{nine, ten, eleven, twelve, thirteen, fourteen, fifteen, uncovered, sixteen, miscounted}
 use Rattle.xor.proofs.Lawful.{xor-lawful}
 use Rattle.xor.proofs.Page.{page-told}
 
@@ -97,6 +97,8 @@ module _ (links values : List ℕ) (b : Book) where
   pool-told r (pool-fourteen e z A c u) = fourteen e r (z .link, z .value) (sequences-told A) c (u .inside) (u .notWiped) (u .lowest)
   pool-told r (pool-fifteen e z A c w (inl o)) = fifteen e r (z .link, z .value) (sequences-told A) c w (o .below) (o .over) (o .lowest)
   pool-told r (pool-fifteen e z A c w (inr u)) = uncovered (e ∙ ap (λ l. fault 15 l 0) (u .all ∙ as-many r)) r (z .link, z .value) (sequences-told A) c w (u .short) (u .few)
+  pool-told r (pool-sixteen e z A c w v (inl o)) = sixteen e r (z .link, z .value) (sequences-told A) c w (v .short, v .spare) (o .below) (o .wrong) (o .lowest)
+  pool-told r (pool-sixteen e z A c w v (inr u)) = miscounted (e ∙ ap (λ l. fault 16 l 0) (u .all ∙ as-many r)) r (z .link, z .value) (sequences-told A) c w (v .short, v .spare) (u .right) (u .wrong)
 
   page-to : {f : Fault} → Breaks xor links values (eight b) f → XorBroken links values b f
   page-to (book-nine e n) = nine e n
@@ -114,6 +116,9 @@ module _ (links values : List ℕ) (b : Book) where
   page-of (fifteen e r z S c w h o l) = later r (pool-fifteen e (record { link = z .0; value = z .1 }) (sequences-of S) c w (inl (record { below = h; over = o; lowest = l })))
   page-of (uncovered e r z S c w s f) =
       later r (pool-fifteen e (record { link = z .0; value = z .1 }) (sequences-of S) c w (inr (record { all = sym (as-many r); short = s; few = f })))
+  page-of (sixteen e r z S c w v h o l) = later r (pool-sixteen e (record { link = z .0; value = z .1 }) (sequences-of S) c w (record { short = v .0; spare = v .1 }) (inl (record { below = h; wrong = o; lowest = l })))
+  page-of (miscounted e r z S c w v h o) =
+      later r (pool-sixteen e (record { link = z .0; value = z .1 }) (sequences-of S) c w (record { short = v .0; spare = v .1 }) (inr (record { all = sym (as-many r); right = h; wrong = o })))
 
   -- what the laws of the first fault speak of at the XOR engine is what the page says
   pub broken-page-told : (f : Fault) → Breaks xor links values (eight b) f ↔ XorBroken links values b f
@@ -124,9 +129,9 @@ module _ (links values : List ℕ) (b : Book) where
     fit = record { even = refl; same = sym same; size = size }
 
     -- the fault that the check gives is exactly the one that the page names
-    pub broken-page-found : (wanted : ℕ) (f : Fault) → f .rule ≢ 0 → checkFound xor wanted links values (eight b) .fault ≡ f ↔ XorBroken links values b f
-    broken-page-found wanted f n =
-        let e = fault-exactly xor-lawful links values (eight b) fit wanted f n in
+    pub broken-page-found : (f : Fault) → f .rule ≢ 0 → checkFound xor links values (eight b) .fault ≡ f ↔ XorBroken links values b f
+    broken-page-found f n =
+        let e = fault-exactly xor-lawful links values (eight b) fit f n in
         (λ h. page-to (e .0 h), λ w. e .1 (page-of w))
 
     -- a pool with its book breaks a rule first, or is what the other page calls sound, and not both; and it breaks one rule first only

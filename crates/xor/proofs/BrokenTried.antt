@@ -3,6 +3,7 @@ use mathlib.Core.Path.{_≡_, refl, sym, ap, subst, _∙_}
 use mathlib.Core.Logic.{_≢_}
 use mathlib.Core.Bool.{Bool, true, not, _&&_}
 use mathlib.Core.List.{List, [], _∷_}
+use Prim.Native.Nat.{ℕ}
 use native.Mathlib.Omega.{arith}
 use lib.Dec.{eqb}
 use lib.ListN.{replicate}
@@ -15,7 +16,7 @@ use Rattle.books.proofs.Tests.{and-both}
 use Rattle.shapes.specs.declared.Fault.{Fault}
 use Rattle.shapes.specs.Met.{isMetOf, markOf, unmet}
 use Rattle.shapes.specs.Walk.{walkOn, walkable}
-use Rattle.shapes.specs.Faults.{fault, nothingMet, spareFault, idleFault}
+use Rattle.shapes.specs.Faults.{fault, nothingMet, countFault, spareFault, idleFault}
 use Rattle.engines.specs.Edges.{sameRefusal}
 use Rattle.engines.specs.FirstFault.{Breaks}
 use Rattle.engines.specs.Check.{idlePath, gatherAll, nullSlotZero, poolFound, checkFound}
@@ -50,7 +51,7 @@ told e h a =
     let (s, t) = and-both (not (eqb (e .answer .number) 0)) _ st in
     let some : e .answer .number ≢ 0 = eqb-false _ _ (not-true _ s) in
     let fits : e .answer .number ≢ 1 = eqb-false _ _ (not-true _ t) in
-    let broken = look-tells xor-lawful 0 (e .links) (e .values) (e .book) .named (faultIn (e .answer)) some fits .0 (same-answer (lookAnswer e) (e .answer) a) .1 in
+    let broken = look-tells xor-lawful (e .links) (e .values) (e .book) .named (faultIn (e .answer)) some fits .0 (same-answer (lookAnswer e) (e .answer) a) .1 in
     broken-page-told (e .links) (e .values) (bookOf (e .book)) (faultIn (e .answer)) .0 (subst (λ (b : AnyBook). Breaks xor (e .links) (e .values) b (faultIn (e .answer))) (book (eqb-true _ _ d)) broken)
   where
     book : e .book .places ≡ mostLists → e .book ≡ eight (bookOf (e .book))
@@ -74,11 +75,11 @@ on-the-page (e ∷ es) h k =
 pub broken-pools-told : OnThePage brokenPools
 broken-pools-told = on-the-page brokenPools refl first-fault-tried
 
--- 01's P9: "N = 4, one list, share 0, limit 3, head and tail 1, free head 0, links 0,2,0,0, values 0"
-abbrev ninth : Book
-ninth = record { lists = 1; entries = record { head = 1; tail = 1; share = 0; limit = 3 } ∷ replicate 7 zeroEntry; free = record { head = 0 } }
+-- 01's P9: "N = 4, one list, share 0, limit 3, head and tail 1, free head 0, links 0,2,0,0, values 0", with any counts
+abbrev ninth : ℕ → ℕ → Book
+ninth length count = record { lists = 1; entries = record { head = 1; tail = 1; share = 0; limit = 3; length = length } ∷ replicate 7 zeroEntry; free = record { head = 0; count = count } }
 
 -- list 0 is broken at position 2
-pub ninth-told : XorBroken (0 ∷ 2 ∷ 0 ∷ 0 ∷ []) (0 ∷ 0 ∷ 0 ∷ 0 ∷ []) ninth (fault 11 0 2)
-unfolding isFair isZero gather allZero keepsRules nothingMet gatherAll spareFault idleFault nullSlotZero poolFound checkFound isMetOf markOf unmet walkOn walkable idlePath
-ninth-told = broken-page-found (0 ∷ 2 ∷ 0 ∷ 0 ∷ []) (0 ∷ 0 ∷ 0 ∷ 0 ∷ []) ninth refl (record { least = omega arith; most = omega arith }) 0 (fault 11 0 2) (λ e. omega arith) .0 refl
+pub ninth-told : (length count : ℕ) → XorBroken (0 ∷ 2 ∷ 0 ∷ 0 ∷ []) (0 ∷ 0 ∷ 0 ∷ 0 ∷ []) (ninth length count) (fault 11 0 2)
+unfolding isFair isZero gather allZero keepsRules nothingMet gatherAll countFault spareFault idleFault nullSlotZero poolFound checkFound isMetOf markOf unmet walkOn walkable idlePath
+ninth-told length count = broken-page-found (0 ∷ 2 ∷ 0 ∷ 0 ∷ []) (0 ∷ 0 ∷ 0 ∷ 0 ∷ []) (ninth length count) refl (record { least = omega arith; most = omega arith }) (fault 11 0 2) (λ e. omega arith) .0 refl

@@ -30,7 +30,7 @@ use Rattle.shapes.proofs.Ends.{contents-reverse}
 -- ---- the list read from its other end
 
 abbrev flip : Entry → Entry
-flip list = record { head = list .tail; tail = list .head; share = list .share; limit = list .limit }
+flip list = record { head = list .tail; tail = list .head; share = list .share; limit = list .limit; length = list .length }
 
 abbrev flipPushed : Outcome PushStep → Outcome PushStep
 flipPushed r = outcome (record { done = r .answer .done; entry = flip (r .answer .entry); free = r .answer .free }) (r .links) (r .values)

@@ -38,6 +38,8 @@ page-told links values b s = (to, of)
             nullValue = T .nullValue;
             short = T .short;
             spare = T .spare;
+            counted = T .counted;
+            freeCounted = T .freeCounted;
           };
         }
 
@@ -60,6 +62,8 @@ page-told links values b s = (to, of)
             nullValue = T .nullValue;
             short = T .short;
             spare = T .spare;
+            counted = T .counted;
+            freeCounted = T .freeCounted;
           };
         }
 

@@ -21,11 +21,12 @@ use Rattle.xor.proofs.Ends.{push-held, new-held}
 abbrev pub six : ℕ → ℕ → ℕ → ℕ → ℕ → ℕ → List ℕ
 six a b c d e f = a ∷ b ∷ c ∷ d ∷ e ∷ f ∷ []
 
+-- the steps do not count: the stored length and count are as they were
 abbrev pub list : ℕ → ℕ → Entry
-list h t = record { head = h; tail = t; share = 2; limit = 5 }
+list h t = record { head = h; tail = t; share = 2; limit = 5; length = 0 }
 
 abbrev pub idle : ℕ → Free
-idle h = record { head = h }
+idle h = record { head = h; count = 0 }
 
 slot-of-six : (y : ℕ) → 0 < y → y < 6 → InPool (six 0 2 3 4 5 0) (six 0 0 0 0 0 0) y
 slot-of-six y p q = record { notNull = p; hasLink = q; hasValue = q }

@@ -31,7 +31,7 @@ said-none free = record { done = refl; slot = refl; rest = refl }
 module _ (links values : List ℕ) (free : Free) where
   pub take-done : InPool links values (free .head) → Takes links free (takeOf links values free)
   unfolding takeOf
-  take-done p = rw (in-pool links values (free .head) .1 p) (record { done = refl; slot = refl; rest = refl })
+  take-done p = rw (in-pool links values (free .head) .1 p) (record { done = refl; slot = refl; rest = refl; sameCount = refl })
 
   pub take-none : (InPool links values (free .head) → ⊥) → TakesNone free (takeOf links values free)
   unfolding takeOf
@@ -75,6 +75,7 @@ module _ (links values : List ℕ) (slot : ℕ) (free : Free) where
       (record {
         done = refl;
         head = refl;
+        sameCount = refl;
         link = let b = p .hasLink in simp getD-set-same;
         wiped = let b = p .hasValue in simp getD-set-same;
         frame = record {

@@ -25,8 +25,9 @@ use Rattle.shapes.specs.declared.End.the-variants.{Front, Back}
 use Rattle.shapes.specs.declared.PushStep.{PushStep}
 use Rattle.shapes.specs.declared.PopStep.{PopStep}
 use Rattle.shapes.specs.Ends.{nearOf, withNear, opposite}
+use Rattle.shapes.proofs.Ends.{near-set}
 use Rattle.xor.specs.Steps.{pushEmptyOf, pushOf, popOf}
-use Rattle.xor.specs.StepDone.{Apart, unlessNull, touchedByPush, touchedByPop, PushRefused, PushDone, PopRefused, PopDone}
+use Rattle.xor.specs.StepDone.{Apart, unlessNull, touchedByPush, touchedByPop, NotCounted, PushRefused, PushDone, PopRefused, PopDone}
 use Rattle.xor.proofs.Ways.{one-apart, two-apart, PushWay, push-way, PopWay, pop-way}
 use Rattle.xor.proofs.Ways as W
 
@@ -86,6 +87,15 @@ module _ (end : End) (links values : List ℕ) (list : Entry) (free : Free) (val
       go (W.alone e p) h = not-both true refl h
       go (W.beside e p d q) h = not-both true refl h
       go (W.none n) h = record { done = refl; sameEntry = refl; sameFree = refl; sameLinks = refl; sameValues = refl }
+
+  -- done or refused, it counts nothing
+  pub push-not-counted : let r = pushOf end links values list free value .answer in NotCounted list free (r .entry) (r .free)
+  push-not-counted = go (push-way end links values list free value)
+    where
+      go : {r : Outcome PushStep} → PushWay end links values list free value r → NotCounted list free (r .answer .entry) (r .answer .free)
+      go (W.alone e p) = record { sameLength = refl; sameCount = refl }
+      go (W.beside e p n q) = record { sameLength = near-set end (free .head) list .4; sameCount = refl }
+      go (W.none n) = record { sameLength = refl; sameCount = refl }
 
   pub push-step-done : pushOf end links values list free value .answer .done ≡ true → PushDone end links values list free value (pushOf end links values list free value)
   push-step-done = go (push-way end links values list free value)
@@ -178,6 +188,15 @@ module _ (end : End) (links values : List ℕ) (list : Entry) (free : Free) wher
       go (W.only p e) h = not-both _ (freed p .done) h
       go (W.beside p e d q) h = not-both _ (freed p .done) h
       go (W.none n) h = record { done = refl; noValue = refl; sameEntry = refl; sameFree = refl; sameLinks = refl; sameValues = refl }
+
+  pub pop-not-counted : let r = popOf end links values list free .answer in NotCounted list free (r .entry) (r .free)
+  unfolding slot near
+  pop-not-counted = go (pop-way end links values list free)
+    where
+      go : {r : Outcome PopStep} → PopWay end links values list free slot near r → NotCounted list free (r .answer .entry) (r .answer .free)
+      go (W.only p e) = record { sameLength = refl; sameCount = freed p .sameCount }
+      go (W.beside p e n q) = record { sameLength = near-set end near list .4; sameCount = freed p .sameCount }
+      go (W.none n) = record { sameLength = refl; sameCount = refl }
 
   pub pop-step-done : popOf end links values list free .answer .done ≡ true → PopDone end links values list free (popOf end links values list free)
   unfolding slot near

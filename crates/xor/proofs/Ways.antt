@@ -68,9 +68,9 @@ module _ {links values : List ℕ} (s : ℕ) where
 module _ (end : End) (links values : List ℕ) (list : Entry) (free : Free) (value : ℕ) where
   pub data PushWay : Outcome PushStep → Type 0 where
     alone : list .tail ≡ nullSlot → InPool links values (free .head)
-        → PushWay (pushedAlone links values list free value (free .head) (record { head = cell links (free .head) }))
+        → PushWay (pushedAlone links values list free value (free .head) (record { head = cell links (free .head); count = free .count }))
     beside : list .tail ≢ nullSlot → InPool links values (free .head) → nearOf end list ≢ free .head → InPool links values (nearOf end list)
-        → PushWay (pushedBeside end links values list free value (nearOf end list) (free .head) (record { head = cell links (free .head) }))
+        → PushWay (pushedBeside end links values list free value (nearOf end list) (free .head) (record { head = cell links (free .head); count = free .count }))
     none : (Apart links values (touchedByPush end list free) → ⊥) → PushWay (notPushed links values list free value)
 
   pub push-way : PushWay (pushOf end links values list free value)

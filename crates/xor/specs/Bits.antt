@@ -1,4 +1,4 @@
--- Pools of the XOR list in which one bit is wrong, each with the number and the place that a look must give: every bit of slot 0, of a free slot, of a live slot's link, of the ends and the free head. And values bit by bit through the steps.
+-- Pools of the XOR list in which one bit is wrong, each with the number and the place that a look must give: every bit of slot 0, of a free slot, of a live slot's link, of the ends, the free head and the stored counts. And values bit by bit through the steps.
 use mathlib.Core.Bool.{Bool, true, cond, _&&_}
 use mathlib.Core.List.{List, [], _∷_, _++_, map}
 use Prim.Native.Nat.{ℕ}
@@ -15,28 +15,28 @@ use Rattle.engines.specs.Edges.{sound, broken}
 use Rattle.xor.specs.Slot.{inPool}
 use Rattle.xor.specs.Steps.{pushOf, popOf}
 use Rattle.xor.specs.Engine.{freshLink}
-use Rattle.xor.specs.Edges.{Edge, edge}
+use Rattle.xor.specs.Edges.{Edge, counted, edge}
 
 -- N = 2 and one list, share 0 and limit 1: slot 1 is free, or it is the list's. Its link and its value
 abbrev pub freeHolds : Refusal → ℕ → ℕ → Edge
-freeHolds answer link value = edge answer (0 ∷ link ∷ []) (0 ∷ value ∷ []) 1 (entry 0 0 0 1 ∷ none 7) 1
+freeHolds answer link value = edge answer (0 ∷ link ∷ []) (0 ∷ value ∷ []) 1 (entry 0 0 0 1 0 ∷ none 7) 1
 
 abbrev pub liveHolds : Refusal → ℕ → ℕ → Edge
-liveHolds answer link value = edge answer (0 ∷ link ∷ []) (0 ∷ value ∷ []) 1 (entry 1 1 0 1 ∷ none 7) 0
+liveHolds answer link value = edge answer (0 ∷ link ∷ []) (0 ∷ value ∷ []) 1 (entry 1 1 0 1 1 ∷ none 7) 0
 
 -- slot 0's link and value, where slot 1 is free
 abbrev pub nullHolds : ℕ → ℕ → Edge
-nullHolds link value = edge (broken 10 0 0) (link ∷ 0 ∷ []) (value ∷ 0 ∷ []) 1 (entry 0 0 0 1 ∷ none 7) 1
+nullHolds link value = edge (broken 10 0 0) (link ∷ 0 ∷ []) (value ∷ 0 ∷ []) 1 (entry 0 0 0 1 0 ∷ none 7) 1
 
 abbrev four : ℕ → ℕ → ℕ → ℕ → List ℕ
 four a b c d = a ∷ b ∷ c ∷ d ∷ []
 
 -- N = 4: slots 1, 2 and 3 are one list's in this order, and so are their links; or they are free
 abbrev threeLive : Refusal → List ℕ → ℕ → ℕ → Edge
-threeLive answer links head tail = edge answer links (four 0 7 allBits 9) 1 (entry head tail 0 3 ∷ none 7) 0
+threeLive answer links head tail = edge answer links (four 0 7 allBits 9) 1 (entry head tail 0 3 3 ∷ none 7) 0
 
 abbrev threeFree : Refusal → List ℕ → List ℕ → ℕ → Edge
-threeFree answer links values free = edge answer links values 1 (entry 0 0 0 3 ∷ none 7) free
+threeFree answer links values free = edge answer links values 1 (entry 0 0 0 3 0 ∷ none 7) free
 
 -- the cell of a slot with one bit the other way
 abbrev flipped : List ℕ → ℕ → ℕ → List ℕ
@@ -50,7 +50,7 @@ oneBit =
     ∷ liveHolds sound 0 allBits
     ∷ threeLive sound (four 0 2 2 2) 1 3
     ∷ threeFree sound (four 0 2 3 0) (four 0 0 0 0) 1
-    ∷ edge sound (0 ∷ 7 ∷ 5 ∷ 1 ∷ 1 ∷ 0 ∷ []) (0 ∷ 200 ∷ 0 ∷ 100 ∷ 300 ∷ 0 ∷ []) 1 (entry 3 4 0 5 ∷ none 7) 2
+    ∷ edge sound (0 ∷ 7 ∷ 5 ∷ 1 ∷ 1 ∷ 0 ∷ []) (0 ∷ 200 ∷ 0 ∷ 100 ∷ 300 ∷ 0 ∷ []) 1 (entry 3 4 0 5 3 ∷ none 7) 2
     -- "every free slot's value is 0; slot 0 has link 0 and value 0"
     ∷ freeHolds (broken 14 0 1) 0 allBits
     ∷ nullHolds 0 allBits
@@ -76,6 +76,10 @@ oneBit =
     ++ map (λ b. threeLive (cond (eqb b 2) (broken 11 0 3) (broken 11 0 0)) (four 0 2 2 2) (bitXor 1 b) 3) wordBits
     ++ map (λ b. threeLive (broken 11 0 3) (four 0 2 2 2) 1 (bitXor 3 b)) wordBits
     ++ map (λ b. threeFree (cond (ltb b 4) (broken 13 0 1) (broken 12 0 0)) (four 0 2 3 0) (four 0 0 0 0) (bitXor 1 b)) wordBits
+    -- 02 c): the stored length and the stored count of the free slots
+    ++ map (λ b. counted (broken 16 0 0) (four 0 0 3 0) (four 0 7 0 0) 1 (entry 1 1 0 3 (bitXor 1 b) ∷ none 7) 2 2) wordBits
+    ++ map (λ b. counted (broken 16 1 0) (four 0 0 3 0) (four 0 7 0 0) 1 (entry 1 1 0 3 1 ∷ none 7) 2 (bitXor 2 b)) wordBits
+    ++ map (λ b. counted (broken 9 0 0) (four 0 0 3 0) (four 0 7 0 0) 1 (entry 1 1 0 3 1 ∷ entry 0 0 0 0 b ∷ none 6) 2 2) wordBits
 
 -- ---- the steps
 
@@ -86,25 +90,25 @@ six a b c d e f = a ∷ b ∷ c ∷ d ∷ e ∷ f ∷ []
 -- a value that is pushed behind slot 1 stands in slot 2 with all its bits; popped from there it is handed out whole, and slot 2 holds 0
 abbrev pub throughSteps : End → ℕ → Bool
 throughSteps end value =
-    let list = entry 1 1 2 5 in
-    let pushed = pushOf end (six 0 0 3 4 5 0) (six 0 8 0 0 0 0) list (record { head = 2 }) value in
+    let list = entry 1 1 2 5 1 in
+    let pushed = pushOf end (six 0 0 3 4 5 0) (six 0 8 0 0 0 0) list (record { head = 2; count = 4 }) value in
     let popped = popOf end (pushed .links) (pushed .values) (pushed .answer .entry) (pushed .answer .free) in
     sameNumbers (pushed .links) (six 0 2 1 4 5 0)
     && (sameNumbers (pushed .values) (six 0 8 value 0 0 0)
     && (eqb (popped .answer .value) value
     && (sameNumbers (popped .links) (six 0 0 3 4 5 0) && sameNumbers (popped .values) (six 0 8 0 0 0 0))))
 
--- the same with an empty list: the value stands in slot 1, which is head and tail then; popped, the list is empty again
+-- the same with an empty list: the value stands in slot 1, which is head and tail then; popped, the list is empty again. Any counts are left
 abbrev pub throughEmpty : End → ℕ → Bool
 throughEmpty end value =
-    let list = entry 0 0 2 5 in
-    let pushed = pushOf end (six 0 2 3 4 5 0) (six 0 0 0 0 0 0) list (record { head = 1 }) value in
+    let list = entry 0 0 2 5 9 in
+    let pushed = pushOf end (six 0 2 3 4 5 0) (six 0 0 0 0 0 0) list (record { head = 1; count = 7 }) value in
     let popped = popOf end (pushed .links) (pushed .values) (pushed .answer .entry) (pushed .answer .free) in
     sameNumbers (pushed .links) (six 0 0 3 4 5 0)
     && (sameNumbers (pushed .values) (six 0 value 0 0 0 0)
-    && (sameNumbers (pushed .answer .free .head ∷ entryWords (pushed .answer .entry ∷ [])) (2 ∷ 1 ∷ 1 ∷ 2 ∷ 5 ∷ [])
+    && (sameNumbers (pushed .answer .free .head ∷ pushed .answer .free .count ∷ entryWords (pushed .answer .entry ∷ [])) (2 ∷ 7 ∷ 1 ∷ 1 ∷ 2 ∷ 5 ∷ 9 ∷ [])
     && (eqb (popped .answer .value) value
-    && (sameNumbers (popped .answer .free .head ∷ entryWords (popped .answer .entry ∷ [])) (1 ∷ 0 ∷ 0 ∷ 2 ∷ 5 ∷ [])
+    && (sameNumbers (popped .answer .free .head ∷ popped .answer .free .count ∷ entryWords (popped .answer .entry ∷ [])) (1 ∷ 7 ∷ 0 ∷ 0 ∷ 2 ∷ 5 ∷ 9 ∷ [])
     && (sameNumbers (popped .links) (six 0 2 3 4 5 0) && sameNumbers (popped .values) (six 0 0 0 0 0 0))))))
 
 abbrev pub allThrough : List ℕ → Bool

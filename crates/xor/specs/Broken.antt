@@ -1,4 +1,4 @@
--- The reader's page for 02 b): which of the rules 9 to 15 a pool with its book breaks first, with the list and the position, in the XOR list's own cells. It is a definition, not the check's algorithm. The law `broken-page-told` says that all other laws speak of it, and `broken-page-found` that the check finds just this. A pool that breaks no rule is `XorBook`. `standAt`, `Reached` and `StandsIn` open crates/engines/specs/Positions.antt and speak of no engine.
+-- The reader's page for 02 b) and c): which of the rules 9 to 16 a pool with its book breaks first, with the list and the position, in the XOR list's own cells. It is a definition, not the check's algorithm. The law `broken-page-told` says that all other laws speak of it, and `broken-page-found` that the check finds just this. A pool that breaks no rule is `XorBook`. `standAt`, `Reached` and `StandsIn` open crates/engines/specs/Positions.antt and speak of no engine.
 use mathlib.Core.Path.{_≡_}
 use mathlib.Core.Logic.{_≢_, _⊎_}
 use mathlib.Core.List.{List}
@@ -68,6 +68,10 @@ module _ (links values : List ℕ) (b : Book) where
   abbrev FreeSlotsWiped : Shape → Type 0
   FreeSlotsWiped s = (y : ℕ) → 0 < count y (s .idle) → cell values y ≡ wipeWord
 
+  -- no list is longer than its limit, and the free slots are at least what the lists lack
+  abbrev LimitsAndShares : Shape → Type 0
+  LimitsAndShares s = ((k : ℕ) → k < length es → length (chainAt s k) ≤ entryAt es k .limit) × (lacks es (s .chains) ≤ length (s .idle))
+
   -- the first rule that is broken, its list and its position, 0 where none applies
   pub data XorBroken (f : Fault) : Type 0 where
     -- 9: what 01 says of L, the shares and the limits does not hold; 10: slot 0 has a link or a value
@@ -90,3 +94,8 @@ module _ (links values : List ℕ) (b : Book) where
         → entryAt es l .limit < length (chainAt s l) → ((k : ℕ) → k < l → length (chainAt s k) ≤ entryAt es k .limit) → XorBroken f
     uncovered : {s : Shape} → f ≡ fault 15 (b .lists) 0 → RulesKept → NullIsZero → Sequences s → NoSlotMissing s → FreeSlotsWiped s
         → ((k : ℕ) → k < length es → length (chainAt s k) ≤ entryAt es k .limit) → length (s .idle) < lacks es (s .chains) → XorBroken f
+    -- 16: the lowest list whose stored length is not its sequence's; where none is, L, if the stored free count is not the free sequence's
+    sixteen : {l : ℕ} {s : Shape} → f ≡ fault 16 l 0 → RulesKept → NullIsZero → Sequences s → NoSlotMissing s → FreeSlotsWiped s → LimitsAndShares s → l < length es
+        → entryAt es l .length ≢ length (chainAt s l) → ((k : ℕ) → k < l → entryAt es k .length ≡ length (chainAt s k)) → XorBroken f
+    miscounted : {s : Shape} → f ≡ fault 16 (b .lists) 0 → RulesKept → NullIsZero → Sequences s → NoSlotMissing s → FreeSlotsWiped s → LimitsAndShares s
+        → ((k : ℕ) → k < length es → entryAt es k .length ≡ length (chainAt s k)) → b .free .count ≢ length (s .idle) → XorBroken f

@@ -9,12 +9,22 @@ use lib.ListN.{length}
 use Rattle.books.specs.Book.{nullSlot}
 use Rattle.books.specs.Tabulate.{tabulate}
 use Rattle.chains.specs.Chain.{cell, LiveChain, IdleChain}
-use Rattle.engines.specs.Engine.{Engine}
+use Rattle.books.specs.Outcome.{Outcome}
+use Rattle.shapes.specs.declared.PushStep.{PushStep}
+use Rattle.shapes.specs.declared.PopStep.{PopStep}
+use Rattle.engines.specs.Engine.{Engine, Step}
 use Rattle.xor.specs.Steps.{pushOf, popOf}
 
 -- 01: "links 1 to 2, 2 to 3, and so on, the last 0"
 unfoldable pub freshLink : ℕ → ℕ → ℕ
 freshLink size slot = cond (ltb nullSlot slot && ltb (slot + 1) size) (slot + 1) 0
+
+-- what a push and a pop leave, as an engine's step
+abbrev pub pushedAs : Outcome PushStep → Step (List ℕ)
+pushedAs r = record { done = r .answer .done; value = 0; entry = r .answer .entry; free = r .answer .free; links = r .links; values = r .values }
+
+abbrev pub poppedAs : Outcome PopStep → Step (List ℕ)
+poppedAs r = record { done = r .answer .done; value = r .answer .value; entry = r .answer .entry; free = r .answer .free; links = r .links; values = r .values }
 
 abbrev pub xor : Engine
 xor =
@@ -35,10 +45,6 @@ xor =
       idleOnward = λ links p x. cell links x;
       idleFits = λ links p x. true;
       fresh = λ links. tabulate (length links) (freshLink (length links));
-      push = λ end links values list free value.
-          let r = pushOf end links values list free value in
-          record { done = r .answer .done; value = 0; entry = r .answer .entry; free = r .answer .free; links = r .links; values = r .values };
-      pop = λ end links values list free.
-          let r = popOf end links values list free in
-          record { done = r .answer .done; value = r .answer .value; entry = r .answer .entry; free = r .answer .free; links = r .links; values = r .values };
+      push = λ end links values list free value. pushedAs (pushOf end links values list free value);
+      pop = λ end links values list free. poppedAs (popOf end links values list free);
     }

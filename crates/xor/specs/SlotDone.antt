@@ -24,6 +24,7 @@ pub record Takes (links : List ℕ) (free : Free) (said : Said) : Type 0 where
   pub done : said .done ≡ true
   pub slot : said .slot ≡ free .head
   pub rest : said .free .head ≡ cell links (free .head)
+  pub sameCount : said .free .count ≡ free .count
 
 -- none: no slot, and the idle chain as it was
 pub record TakesNone (free : Free) (said : Said) : Type 0 where
@@ -42,6 +43,7 @@ pub record TakesFirst (links : List ℕ) (s : ℕ) (fs : List ℕ) (said : Said)
 pub record Wipes (links values : List ℕ) (slot : ℕ) (free : Free) (r : Outcome Released) : Type 0 where
   pub done : r .answer .done ≡ true
   pub head : r .answer .free .head ≡ slot
+  pub sameCount : r .answer .free .count ≡ free .count
   pub link : cell (r .links) slot ≡ free .head
   pub wiped : cell (r .values) slot ≡ wipeWord
   pub frame : Frame links values (r .links) (r .values) (slot ∷ []) (slot ∷ [])

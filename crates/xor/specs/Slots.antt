@@ -1,4 +1,4 @@
--- What taking a slot and releasing one give, and what they leave of both slices.
+-- What taking a slot and releasing one give, and what they leave of both slices. The stored count stays: the calls count (02 c).
 use mathlib.Core.Bool.{Bool, true, false, cond}
 use mathlib.Core.List.{List}
 use Prim.Native.Nat.{ℕ}
@@ -27,12 +27,12 @@ saidBy free Nothing = record { done = false; slot = nullSlot; free = free }
 unfoldable pub takeOf : List ℕ → List ℕ → Free → Said
 takeOf links values free =
     cond (inPool links values (free .head))
-    (record { done = true; slot = free .head; free = record { head = cell links (free .head) } })
+    (record { done = true; slot = free .head; free = record { head = cell links (free .head); count = free .count } })
     (record { done = false; slot = nullSlot; free = free })
 
 -- 01: "The slot's value becomes 0 and the slot becomes the free head, its link the old free head"
 unfoldable pub releaseOf : List ℕ → List ℕ → ℕ → Free → Outcome Released
 releaseOf links values slot free =
     cond (inPool links values slot)
-    (outcome (record { done = true; free = record { head = slot } }) (set links slot (free .head)) (set values slot wipeWord))
+    (outcome (record { done = true; free = record { head = slot; count = free .count } }) (set links slot (free .head)) (set values slot wipeWord))
     (outcome (record { done = false; free = free }) links values)

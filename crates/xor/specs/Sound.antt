@@ -1,4 +1,4 @@
--- The reader's page: what it is for a pool with its book to be sound, document 01, "The pool and the book", clause by clause, with the XOR list's own cells. It is a definition, not the check's algorithm. The law `page-accepts` says that the check accepts just these pools, and `page-told` that all other laws speak of them.
+-- The reader's page: what it is for a pool with its book to be sound, document 01, "The pool and the book", clause by clause, and 02 c)'s counts, with the XOR list's own cells. It is a definition, not the check's algorithm. The law `page-accepts` says that the check accepts just these pools, and `page-told` that all other laws speak of them.
 use mathlib.Core.Path.{_≡_}
 use mathlib.Core.List.{List}
 use Prim.Native.Nat.{ℕ, _≤_, _<_}
@@ -39,6 +39,9 @@ pub record XorSound (links values : List ℕ) (es : List Entry) (free : Free) (s
   pub short : (l : ℕ) → l < length es → length (chainAt s l) ≤ entryAt es l .limit
   -- 01: "the free slots are at least the sum of what each list lacks of its share"
   pub spare : lacks es (s .chains) ≤ length (s .idle)
+  -- 02 c): the book has "the length of each list and the number of free slots"; "each equals its sequence's length"
+  pub counted : (l : ℕ) → l < length es → entryAt es l .length ≡ length (chainAt s l)
+  pub freeCounted : free .count ≡ length (s .idle)
 
 -- 01's book: the rules on L, shares and limits, and the pool sound over the first L entries
 pub record XorBook (links values : List ℕ) (b : Book) (s : Shape) : Type 0 where

@@ -74,6 +74,11 @@ pub record PushRefused (links values : List ℕ) (list : Entry) (free : Free) (r
   pub sameLinks : r .links ≡ links
   pub sameValues : r .values ≡ values
 
+-- 02 c)'s counts are the calls' to keep: a step leaves the list's length and the free count as it found them
+pub record NotCounted (list : Entry) (free : Free) (entry : Entry) (left : Free) : Type 0 where
+  pub sameLength : entry .length ≡ list .length
+  pub sameCount : left .count ≡ free .count
+
 -- a done push: the slot at the free head is taken, stores the value and is linked as 000 does
 pub record PushDone (end : End) (links values : List ℕ) (list : Entry) (free : Free) (value : ℕ) (r : Outcome PushStep) : Type 0 where
   pub done : r .answer .done ≡ true
@@ -86,7 +91,7 @@ pub record PushDone (end : End) (links values : List ℕ) (list : Entry) (free :
   pub next : list .tail ≢ nullSlot
       → (nearOf end (r .answer .entry) ≡ free .head) × (nearOf (opposite end) (r .answer .entry) ≡ nearOf (opposite end) list)
       × (cell (r .links) (free .head) ≡ nearOf end list) × (cell (r .links) (nearOf end list) ≡ bitXor (cell links (nearOf end list)) (free .head))
-  -- 01: "Only the new slot, the old end slot and, in the book, that list's ends and the free head change"
+  -- 01: "Only the new slot, the old end slot and, in the book, that list's ends and the free head change", and in a call, by 02 c), the counts
   pub share : r .answer .entry .share ≡ list .share
   pub limit : r .answer .entry .limit ≡ list .limit
   pub frame : Frame links values (r .links) (r .values) (touchedByPush end list free) (free .head ∷ [])
@@ -113,7 +118,7 @@ pub record PopDone (end : End) (links values : List ℕ) (list : Entry) (free : 
   pub next : cell links (nearOf end list) ≢ nullSlot
       → (nearOf end (r .answer .entry) ≡ cell links (nearOf end list)) × (nearOf (opposite end) (r .answer .entry) ≡ nearOf (opposite end) list)
       × (cell (r .links) (cell links (nearOf end list)) ≡ bitXor (cell links (cell links (nearOf end list))) (nearOf end list))
-  -- 01: "Only it, its neighbour and, in the book, that list's ends and the free head change"
+  -- 01: "Only it, its neighbour and, in the book, that list's ends and the free head change", and in a call, by 02 c), the counts
   pub share : r .answer .entry .share ≡ list .share
   pub limit : r .answer .entry .limit ≡ list .limit
   pub frame : Frame links values (r .links) (r .values) (touchedByPop end links list) (nearOf end list ∷ [])
