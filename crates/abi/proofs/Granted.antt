@@ -9,11 +9,13 @@ use Rattle.books.specs.declared.Entry.{Entry}
 use Rattle.books.specs.Book.{nullSlot}
 use Rattle.chains.specs.Chain.{cell}
 use Rattle.shapes.specs.declared.End.{End}
-use Rattle.shapes.specs.declared.Found.{Found}
 use Rattle.shapes.specs.Ends.{nearOf}
-use Rattle.shapes.specs.Numbers.{firstThat, decided}
+use Rattle.shapes.specs.Counts.{wordUp, wordDown}
 use Rattle.shapes.specs.Tests.{pushOwnTests, popOwnTests}
 use Rattle.shapes.proofs.Ends.{near-set}
+use Rattle.shapes.proofs.Numbers.{decided-ind}
+use Rattle.engines.specs.Engine.{Step}
+use Rattle.engines.proofs.Counted.{CountedWay, refused, counted, counted-way}
 use Rattle.engines.specs.OnList.{OnList, pushOn, popOn}
 use Rattle.pools.specs.Kept.{withEnds}
 use Rattle.xor.specs.Along.{clearOnList}
@@ -26,9 +28,9 @@ use Rattle.xor.specs.Steps.{isBeside, pushEmptyOf, pushBesideOf, pushOf, popOf}
 abbrev Granted : Entry → Entry → Type 0
 Granted list e = (e .share ≡ list .share) × (e .limit ≡ list .limit)
 
--- an entry with the ends of another that is granted the same is that other
-pub ends-again : (e old : Entry) → Granted old e → withEnds (e .head) (e .tail) old ≡ e
-ends-again e old (p, q) = λ i. record { head = e .head; tail = e .tail; share = sym p i; limit = sym q i }
+-- an entry with the ends and the length of another that is granted the same is that other
+pub ends-again : (e old : Entry) → Granted old e → withEnds (e .head) (e .tail) (e .length) old ≡ e
+ends-again e old (p, q) = λ i. record { head = e .head; tail = e .tail; share = sym p i; limit = sym q i; length = e .length }
 
 module _ (end : End) (links values : List ℕ) (list : Entry) (free : Free) where
   pushed : (value : ℕ) → Granted list (pushOf end links values list free value .answer .entry)
@@ -54,33 +56,37 @@ module _ (end : End) (links values : List ℕ) (list : Entry) (free : Free) wher
       go true false false p q r = rw (p, q, r) (refl, refl)
       go false y z p q r = rw p (refl, refl)
 
-  module _ (found : Found) where
-    push-granted : (value : ℕ) → Granted list (pushOn xor links values list free found end value .entry)
-    unfolding pushOn decided
-    push-granted value = go (eqb (firstThat (pushOwnTests list (found .length) (found .lacks) (found .free))) 0) refl
-      where
-        go : (x : Bool) → eqb (firstThat (pushOwnTests list (found .length) (found .lacks) (found .free))) 0 ≡ x → Granted list (pushOn xor links values list free found end value .entry)
-        go true p = rw p (pushed value)
-        go false p = rw p (refl, refl)
+  -- the counts change neither
+  counted-granted : {made o : Step (List ℕ)} {n m : ℕ} → Granted list (made .entry) → CountedWay made n m o → Granted list (o .entry)
+  counted-granted g (refused h) = g
+  counted-granted g (counted h) = g
 
-    pop-granted : Granted list (popOn xor links values list free found end .entry)
-    unfolding popOn decided
-    pop-granted = go (eqb (firstThat (popOwnTests (found .length))) 0) refl
-      where
-        go : (x : Bool) → eqb (firstThat (popOwnTests (found .length))) 0 ≡ x → Granted list (popOn xor links values list free found end .entry)
-        go true p = rw p popped
-        go false p = rw p (refl, refl)
+  push-granted : (lacks value : ℕ) → Granted list (pushOn xor links values list free lacks end value .entry)
+  unfolding pushOn
+  push-granted lacks value =
+      decided-ind _ _ (λ (r : OnList xor). Granted list (r .entry)) (pushOwnTests list (list .length) lacks (free .count)) (λ k. (refl, refl))
+      (λ k. counted-granted (pushed value) (counted-way (xor .push end links values list free value) (wordUp (list .length)) (wordDown (free .count))))
+
+  pop-granted : Granted list (popOn xor links values list free end .entry)
+  unfolding popOn
+  pop-granted =
+      decided-ind _ _ (λ (r : OnList xor). Granted list (r .entry)) (popOwnTests (list .length)) (λ k. (refl, refl))
+      (λ k. counted-granted popped (counted-way (xor .pop end links values list free) (wordDown (list .length)) (wordUp (free .count))))
+
+clear-granted : (links values : List ℕ) (list : Entry) (free : Free) → Granted list (clearOnList links values list free .entry)
+unfolding clearOnList
+clear-granted links values list free = (refl, refl)
 
 -- of what a function gave back, with the entry as it stands in the book
 through : {o r : OnList xor} {list at : Entry} → o ≡ r → Granted list (r .entry) → list ≡ at → Granted at (o .entry)
 through q g e = (ap (λ (x : OnList xor). x .entry .share) q ∙ g .0 ∙ ap (λ (x : Entry). x .share) e, ap (λ (x : OnList xor). x .entry .limit) q ∙ g .1 ∙ ap (λ (x : Entry). x .limit) e)
 
-module _ (links values : List ℕ) (list : Entry) (free : Free) (found : Found) {o : OnList xor} {at : Entry} where
-  pub push-grants : (end : End) (value : ℕ) → o ≡ pushOn xor links values list free found end value → list ≡ at → Granted at (o .entry)
-  push-grants end value q e = through q (push-granted end links values list free found value) e
+module _ (links values : List ℕ) (list : Entry) (free : Free) {o : OnList xor} {at : Entry} where
+  pub push-grants : (lacks : ℕ) (end : End) (value : ℕ) → o ≡ pushOn xor links values list free lacks end value → list ≡ at → Granted at (o .entry)
+  push-grants lacks end value q e = through q (push-granted end links values list free lacks value) e
 
-  pub pop-grants : (end : End) → o ≡ popOn xor links values list free found end → list ≡ at → Granted at (o .entry)
-  pop-grants end q e = through q (pop-granted end links values list free found) e
+  pub pop-grants : (end : End) → o ≡ popOn xor links values list free end → list ≡ at → Granted at (o .entry)
+  pop-grants end q e = through q (pop-granted end links values list free) e
 
-  pub clear-grants : o ≡ clearOnList links values list free found → list ≡ at → Granted at (o .entry)
-  clear-grants q e = through q (refl, refl) e
+  pub clear-grants : o ≡ clearOnList links values list free → list ≡ at → Granted at (o .entry)
+  clear-grants q e = through q (clear-granted links values list free) e

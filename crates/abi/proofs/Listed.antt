@@ -25,25 +25,25 @@ pub four : _≢_ {A = ℕ} 4 0
 four k = omega (arith, k)
 
 -- `seen` is what the check gave, and `has` whether there is such a list and a place for it
-module _ (links values words : List ℕ) (list : ℕ) (seen : Looked) (e : seen ≡ lookOf xor list links values (eight (bookFrom words))) where
+module _ (links values words : List ℕ) (list : ℕ) (seen : Looked) (e : seen ≡ lookOf xor links values (eight (bookFrom words))) where
   abbrev number : ℕ
   number = seen .refusal .number
 
   abbrev lists : ℕ
   lists = bookFrom words .lists
 
-  -- 1, or 9 to 15 with the place
+  -- 1, or 9 to 16 with the place
   pub check-stops : number ≢ 0 → refusedBy (seen .refusal) ≡ onListOf xor links values (eight (bookFrom words)) list
   check-stops d = early-stopped xor links values (eight (bookFrom words)) list seen e (seen .refusal) (rw (ne-eqb number 0 d) refl) d
 
   -- else there is no place
-  whole : number ≡ 0 → lookOf xor list links values (eight (bookFrom words)) .refusal ≡ numbered 0
-  whole z = look-whole xor list links values (eight (bookFrom words)) (rw e at z)
+  whole : number ≡ 0 → lookOf xor links values (eight (bookFrom words)) .refusal ≡ numbered 0
+  whole z = look-whole xor links values (eight (bookFrom words)) (rw e at z)
 
   module _ (z : number ≡ 0) (has : Bool) (h : has ≡ (ltb list lists && ltb list mostLists)) where
     -- a sound book has a place for each of its lists
     most : lists ≤ 8
-    most = let (s, S) = look-tells xor-lawful list links values (eight (bookFrom words)) .fine .0 (whole z) in S .rules .most
+    most = let (s, S) = look-tells xor-lawful links values (eight (bookFrom words)) .fine .0 (whole z) in S .rules .most
 
     -- 4
     pub list-stops : has ≡ false → refusedBy (numbered 4) ≡ onListOf xor links values (eight (bookFrom words)) list

@@ -9,7 +9,7 @@ ghost use Rattle.faces.specs.Version.{faceVersion};
 pub extern "C" fn flailreeve_version() -> u16
     ensures { λ r. ⌜ r ≡ faceVersion ⌝ }
 {
-    2
+    3
 }
 
 // The number's text, with no null behind it. Answers how many bytes, or 0 where they do not all fit; nothing is written then.

@@ -1,6 +1,7 @@
 // Setup, the pushes, the pops and clear for C. A refused one changes neither the pool nor the book, and stores nothing there. Each but setup
 // writes the place, 0 and 0 where its number sets none: first these, so that a call that is done keeps nothing for it.
 use crate::words::keep;
+use books::Words;
 use pools::words::entry_of;
 use pools::words::free_of;
 use pools::words::has_list;
@@ -17,13 +18,18 @@ pub extern "C" fn flailreeve_setup(
     lists: u16,
     shares: &[u16; 8],
     limits: &[u16; 8],
-    book: &mut [u16; 34],
+    book: &mut Words,
 ) -> u16
     ensures { λ r. ⌜ outcome (prepared r (now (book .exit))) (now (links .exit)) (now (values .exit)) ≡ setupFace (now (links .entry)) (now (values .entry)) lists (now (shares .entry)) (now (limits .entry)) (now (book .entry)) ⌝ }
 {
     let number = shares::setup::lay_out(links, values, lists, shares, limits);
     if number == 0 {
-        *book = pools::words::fresh_words(lists, shares, limits);
+        *book = pools::words::fresh_words(
+            lists,
+            shares,
+            limits,
+            shares::setup::free_slots(links.len()),
+        );
     }
     number
 }
@@ -32,7 +38,7 @@ pub extern "C" fn flailreeve_setup(
 pub extern "C" fn flailreeve_push_back(
     links: &mut [u16],
     values: &mut [u64],
-    book: &mut [u16; 34],
+    book: &mut Words,
     list: u16,
     value: u64,
     place: &mut [u16; 2],
@@ -40,7 +46,7 @@ pub extern "C" fn flailreeve_push_back(
     ensures { λ r. ⌜ outcome (changed r (placeFrom (now (place .exit))) (now (book .exit))) (now (links .exit)) (now (values .exit)) ≡ pushBackFace (now (links .entry)) (now (values .entry)) (now (book .entry)) list value ⌝ }
 {
     *place = [0, 0];
-    let word = pools::check::look(links, values, book, list);
+    let word = pools::check::look(links, values, book);
     let seen = pools::word::told(word);
     let refusal = seen.refusal;
     if refusal.number != 0 {
@@ -53,7 +59,7 @@ pub extern "C" fn flailreeve_push_back(
     let found = seen.found;
     let entry = entry_of(book, list);
     let free = free_of(book);
-    let gone = shares::core::push(links, values, End::Back, entry, free, found, value);
+    let gone = shares::core::push(links, values, End::Back, entry, free, found.lacks, value);
     keep(book, list, gone)
 }
 
@@ -61,7 +67,7 @@ pub extern "C" fn flailreeve_push_back(
 pub extern "C" fn flailreeve_push_front(
     links: &mut [u16],
     values: &mut [u64],
-    book: &mut [u16; 34],
+    book: &mut Words,
     list: u16,
     value: u64,
     place: &mut [u16; 2],
@@ -69,7 +75,7 @@ pub extern "C" fn flailreeve_push_front(
     ensures { λ r. ⌜ outcome (changed r (placeFrom (now (place .exit))) (now (book .exit))) (now (links .exit)) (now (values .exit)) ≡ pushFrontFace (now (links .entry)) (now (values .entry)) (now (book .entry)) list value ⌝ }
 {
     *place = [0, 0];
-    let word = pools::check::look(links, values, book, list);
+    let word = pools::check::look(links, values, book);
     let seen = pools::word::told(word);
     let refusal = seen.refusal;
     if refusal.number != 0 {
@@ -82,7 +88,7 @@ pub extern "C" fn flailreeve_push_front(
     let found = seen.found;
     let entry = entry_of(book, list);
     let free = free_of(book);
-    let gone = shares::core::push(links, values, End::Front, entry, free, found, value);
+    let gone = shares::core::push(links, values, End::Front, entry, free, found.lacks, value);
     keep(book, list, gone)
 }
 
@@ -90,7 +96,7 @@ pub extern "C" fn flailreeve_push_front(
 pub extern "C" fn flailreeve_pop_back(
     links: &mut [u16],
     values: &mut [u64],
-    book: &mut [u16; 34],
+    book: &mut Words,
     list: u16,
     value: &mut u64,
     place: &mut [u16; 2],
@@ -98,7 +104,7 @@ pub extern "C" fn flailreeve_pop_back(
     ensures { λ r. ⌜ outcome (handed r (placeFrom (now (place .exit))) (now (value .exit)) (now (book .exit))) (now (links .exit)) (now (values .exit)) ≡ popBackFace (now (links .entry)) (now (values .entry)) (now (book .entry)) list ⌝ }
 {
     *place = [0, 0];
-    let word = pools::check::look(links, values, book, list);
+    let word = pools::check::look(links, values, book);
     let seen = pools::word::told(word);
     let refusal = seen.refusal;
     if refusal.number != 0 {
@@ -110,10 +116,9 @@ pub extern "C" fn flailreeve_pop_back(
         *value = 0;
         return 4;
     }
-    let found = seen.found;
     let entry = entry_of(book, list);
     let free = free_of(book);
-    let gone = shares::core::pop(links, values, End::Back, entry, free, found, value);
+    let gone = shares::core::pop(links, values, End::Back, entry, free, value);
     keep(book, list, gone)
 }
 
@@ -121,7 +126,7 @@ pub extern "C" fn flailreeve_pop_back(
 pub extern "C" fn flailreeve_pop_front(
     links: &mut [u16],
     values: &mut [u64],
-    book: &mut [u16; 34],
+    book: &mut Words,
     list: u16,
     value: &mut u64,
     place: &mut [u16; 2],
@@ -129,7 +134,7 @@ pub extern "C" fn flailreeve_pop_front(
     ensures { λ r. ⌜ outcome (handed r (placeFrom (now (place .exit))) (now (value .exit)) (now (book .exit))) (now (links .exit)) (now (values .exit)) ≡ popFrontFace (now (links .entry)) (now (values .entry)) (now (book .entry)) list ⌝ }
 {
     *place = [0, 0];
-    let word = pools::check::look(links, values, book, list);
+    let word = pools::check::look(links, values, book);
     let seen = pools::word::told(word);
     let refusal = seen.refusal;
     if refusal.number != 0 {
@@ -141,10 +146,9 @@ pub extern "C" fn flailreeve_pop_front(
         *value = 0;
         return 4;
     }
-    let found = seen.found;
     let entry = entry_of(book, list);
     let free = free_of(book);
-    let gone = shares::core::pop(links, values, End::Front, entry, free, found, value);
+    let gone = shares::core::pop(links, values, End::Front, entry, free, value);
     keep(book, list, gone)
 }
 
@@ -152,14 +156,14 @@ pub extern "C" fn flailreeve_pop_front(
 pub extern "C" fn flailreeve_clear(
     links: &mut [u16],
     values: &mut [u64],
-    book: &mut [u16; 34],
+    book: &mut Words,
     list: u16,
     place: &mut [u16; 2],
 ) -> u16
     ensures { λ r. ⌜ outcome (changed r (placeFrom (now (place .exit))) (now (book .exit))) (now (links .exit)) (now (values .exit)) ≡ clearFace (now (links .entry)) (now (values .entry)) (now (book .entry)) list ⌝ }
 {
     *place = [0, 0];
-    let word = pools::check::look(links, values, book, list);
+    let word = pools::check::look(links, values, book);
     let seen = pools::word::told(word);
     let refusal = seen.refusal;
     if refusal.number != 0 {
@@ -169,9 +173,8 @@ pub extern "C" fn flailreeve_clear(
     if !has_list(book, list) {
         return 4;
     }
-    let found = seen.found;
     let entry = entry_of(book, list);
     let free = free_of(book);
-    let gone = shares::core::clear(links, values, entry, free, found);
+    let gone = shares::core::clear(links, values, entry, free);
     keep(book, list, gone)
 }

@@ -1,4 +1,5 @@
 // Check, length and the reads for C. They change neither the pool nor the book, and write the place, 0 and 0 where their number sets none.
+use books::Words;
 use shapes::End;
 ghost use mathlib.Core.Path.{_≡_};
 ghost use Rattle.books.specs.Words.{placeFrom};
@@ -8,7 +9,7 @@ ghost use Rattle.faces.specs.Face.{checked, told, shown, checkFace, lengthFace,
 pub extern "C" fn flailreeve_check(
     links: &[u16],
     values: &[u64],
-    book: &[u16; 34],
+    book: &Words,
     place: &mut [u16; 2],
 ) -> u16
     ensures { λ r. ⌜ checked r (placeFrom (now (place .exit))) ≡ checkFace (now (links .entry)) (now (values .entry)) (now (book .entry)) ⌝ }
@@ -25,7 +26,7 @@ pub extern "C" fn flailreeve_check(
 pub extern "C" fn flailreeve_length(
     links: &[u16],
     values: &[u64],
-    book: &[u16; 34],
+    book: &Words,
     list: u16,
     length: &mut u16,
     place: &mut [u16; 2],
@@ -46,7 +47,7 @@ pub extern "C" fn flailreeve_length(
 pub extern "C" fn flailreeve_read_forward(
     links: &[u16],
     values: &[u64],
-    book: &[u16; 34],
+    book: &Words,
     list: u16,
     out: &mut [u64],
     at: usize,
@@ -66,7 +67,7 @@ pub extern "C" fn flailreeve_read_forward(
 pub extern "C" fn flailreeve_read_backward(
     links: &[u16],
     values: &[u64],
-    book: &[u16; 34],
+    book: &Words,
     list: u16,
     out: &mut [u64],
     at: usize,

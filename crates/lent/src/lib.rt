@@ -8,7 +8,7 @@ ghost use Rattle.books.specs.Outcome.{outcome};
 ghost use Rattle.xor.specs.Ten.{pushBackOf, pushFrontOf, popBackOf, popFrontOf};
 ghost use Rattle.lent.specs.Lent.{pushed, popped};
 
-// `shares::ends::push_back` on the book that is lent. Refused by 1, 9 to 15, 4, 6 or 7; neither the book nor a slice changes then.
+// `shares::ends::push_back` on the book that is lent. Refused by 1, 9 to 16, 4, 6 or 7; neither the book nor a slice changes then.
 #[no_mangle]
 pub extern "C" fn flailreeve_lent_push_back(
     links: &mut [u16],
@@ -42,7 +42,7 @@ pub extern "C" fn flailreeve_lent_push_front(
     gone.refusal
 }
 
-// `shares::ends::pop_back` on the book that is lent. Refused by 1, 9 to 15, 4 or 5, with value 0; neither the book nor a slice changes then.
+// `shares::ends::pop_back` on the book that is lent. Refused by 1, 9 to 16, 4 or 5, with value 0; neither the book nor a slice changes then.
 #[no_mangle]
 pub extern "C" fn flailreeve_lent_pop_back(
     links: &mut [u16],

@@ -1,4 +1,5 @@
-// Layer 2: upstream's list over a lent pool, as total steps under upstream's names and in its order (000: `DListXor`).
+// Layer 2: upstream's list over a lent pool, as total steps under upstream's names and in its order (000: `DListXor`). The
+// stored length stays as it is: the calls count.
 use books::Book;
 use books::Entry;
 use books::Free;
@@ -21,6 +22,7 @@ pub fn new(share: u16, limit: u16) -> Entry
         tail: Book::NULL,
         share,
         limit,
+        length: 0,
     }
 }
 
@@ -107,12 +109,14 @@ fn with_near(end: End, slot: u16, list: Entry) -> Entry
             tail: list.tail,
             share: list.share,
             limit: list.limit,
+            length: list.length,
         },
         End::Back => Entry {
             head: list.head,
             tail: slot,
             share: list.share,
             limit: list.limit,
+            length: list.length,
         },
     }
 }
@@ -126,6 +130,7 @@ fn with_both(both: u16, list: Entry) -> Entry
         tail: both,
         share: list.share,
         limit: list.limit,
+        length: list.length,
     }
 }
 
@@ -138,6 +143,7 @@ fn emptied(list: Entry) -> Entry
         tail: 0,
         share: list.share,
         limit: list.limit,
+        length: list.length,
     }
 }
 

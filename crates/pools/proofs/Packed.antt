@@ -1,4 +1,4 @@
--- Three counts, or a number with its place, are found again in the one number that they are put into.
+-- What the lists lack, or a number with its place, is found again in the one number that it is put into.
 use mathlib.Core.Path.{_≡_, refl, sym, ap, _∙_}
 use mathlib.Core.Logic.{_≢_}
 use Prim.Native.Nat.{ℕ, _+_, _*_, _/_, _%_, _<_}
@@ -23,25 +23,10 @@ whole b = omega (arith, div-fact (65536 * b) 65535, mod-fact (65536 * b) 65535)
 small : (a : ℕ) → a < 65536 → a % 65536 ≡ a
 small a h = omega (arith, h, div-fact a 65535, mod-fact a 65535)
 
--- a number that has these four
-made : (word : ℕ) {length lacks free : ℕ} → word % 65536 ≡ 0 → word / 65536 % 65536 ≡ length → word / 65536 / 65536 % 65536 ≡ lacks → word / 65536 / 65536 / 65536 ≡ free
-    → toldBy word ≡ fine length lacks free
-made word e f g h = rw (e, f, g, h) refl
+pub lacks-again : (lacks : ℕ) → toldBy (65536 * lacks) ≡ fine lacks
+lacks-again lacks = rw (low-word-zero lacks, whole lacks) refl
 
-pub counts-again : (length lacks free : ℕ) → length < 65536 → lacks < 65536 → toldBy (65536 * (length + 65536 * (lacks + 65536 * free))) ≡ fine length lacks free
-counts-again length lacks free p q =
-    let spare = lacks + 65536 * free in
-    let found = length + 65536 * spare in
-    let word = 65536 * found in
-    let one : word / 65536 ≡ found = whole found in
-    let two : word / 65536 / 65536 ≡ spare = ap (λ (n : ℕ). n / 65536) one ∙ high length spare p in
-    made word
-    (low-word-zero found)
-    (ap (λ (n : ℕ). n % 65536) one ∙ low length spare p)
-    (ap (λ (n : ℕ). n % 65536) two ∙ low lacks free q)
-    (ap (λ (n : ℕ). n / 65536) two ∙ high lacks free q)
-
--- and one that has these three, of which the first is not 0
+-- a number that has these three, of which the first is not 0
 made-broken : (word : ℕ) {rule list place : ℕ} → word % 65536 ≡ rule → rule ≢ 0 → word / 65536 % 65536 ≡ list → word / 65536 / 65536 % 65536 ≡ place → toldBy word ≡ brokenAt rule list place
 made-broken word {rule} e d f g = rw (e, ne-eqb rule 0 d, f, g) refl
 
@@ -82,8 +67,8 @@ told-one a b p q e = go (ℕ-discrete (a % 65536) 0)
     go : Dec (a % 65536 ≡ 0) → a ≡ b
     go (yes z) =
         let w : b % 65536 ≡ 0 = sym n ∙ z in
-        let f : fine (a / 65536 % 65536) (a / 65536 / 65536 % 65536) (a / 65536 / 65536 / 65536) ≡ fine (b / 65536 % 65536) (b / 65536 / 65536 % 65536) (b / 65536 / 65536 / 65536) = rw (z, w) at e in
-        omega (arith, n, split a, split b, ap (λ (x : Looked). x .found .length) f, ap (λ (x : Looked). x .found .lacks) f, ap (λ (x : Looked). x .found .free) f)
+        let f : fine (a / 65536) ≡ fine (b / 65536) = rw (z, w) at e in
+        omega (arith, z, w, div-fact a 65535, mod-fact a 65535, div-fact b 65535, mod-fact b 65535, ap (λ (x : Looked). x .found .lacks) f)
     go (no d) =
         let k : b % 65536 ≢ 0 = λ z. d (n ∙ z) in
         let f : brokenAt (a % 65536) (a / 65536 % 65536) (a / 65536 / 65536 % 65536) ≡ brokenAt (b % 65536) (b / 65536 % 65536) (b / 65536 / 65536 % 65536) = rw (ne-eqb (a % 65536) 0 d, ne-eqb (b % 65536) 0 k) at e in

@@ -2,6 +2,6 @@
 use Prim.Native.Nat.{ℕ}
 use Rattle.books.specs.declared.Entry.{Entry}
 
--- its ends are these, and its share and limit stay
-abbrev pub withEnds : ℕ → ℕ → Entry → Entry
-withEnds head tail e = record { head = head; tail = tail; share = e .share; limit = e .limit }
+-- its ends and its length are these, and its share and limit stay
+abbrev pub withEnds : ℕ → ℕ → ℕ → Entry → Entry
+withEnds head tail length e = record { head = head; tail = tail; share = e .share; limit = e .limit; length = length }

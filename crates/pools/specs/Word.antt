@@ -1,4 +1,4 @@
--- What a look tells, as one number. From the low end, 16 bits each: the number that the call answers with; where it is 0 the length of the list that is asked for, what the lists lack of their shares, and the free slots; and else the list and the position of its place.
+-- What a look tells, as one number. The low 16 bits are the number that the call answers with; above them, where it is 0, what the lists lack of their shares, and else 16 bits each, the list and the position of its place.
 use mathlib.Core.Logic.{_≢_}
 use mathlib.Core.Bool.{cond}
 use Prim.Native.Nat.{ℕ, _/_, _%_, _<_}
@@ -8,8 +8,8 @@ use Rattle.shapes.specs.declared.Looked.{Looked}
 use Rattle.shapes.specs.Faults.{noFault, lookedFine, refusedBy}
 
 -- 0, and what the check found in a sound pool
-abbrev pub fine : ℕ → ℕ → ℕ → Looked
-fine length lacks free = lookedFine (record { fault = noFault; length = length; lacks = lacks; free = free })
+abbrev pub fine : ℕ → Looked
+fine lacks = lookedFine (record { fault = noFault; lacks = lacks })
 
 -- a number with its place, and nothing found
 abbrev pub brokenAt : ℕ → ℕ → ℕ → Looked
@@ -18,7 +18,7 @@ brokenAt number list position = refusedBy (refusalOf number (record { list = lis
 abbrev pub toldBy : ℕ → Looked
 toldBy word =
     cond (eqb (word % 65536) 0)
-    (fine (word / 65536 % 65536) (word / 65536 / 65536 % 65536) (word / 65536 / 65536 / 65536))
+    (fine (word / 65536))
     (brokenAt (word % 65536) (word / 65536 % 65536) (word / 65536 / 65536 % 65536))
 
 -- a word that tells a number has nothing above the place, so that no other word tells the same

@@ -1,18 +1,21 @@
-// The walks along the lists, one list after the other, with what is gathered on the way: rule 11, and what rules 13 and 15 need.
+// The walks along the lists, one list after the other, with what is gathered on the way: rule 11, and what rules 13, 15 and 16
+// need.
 use crate::words::head_at;
+use crate::words::length_at;
 use crate::words::limit_at;
 use crate::words::share_at;
 use crate::words::tail_at;
+use books::Words;
 use shapes::Fault;
 use shapes::Gathered;
 use shapes::LiveWalk;
 ghost use mathlib.Core.Path.{_≡_};
-ghost use mathlib.Core.Bool.{cond, _&&_};
+ghost use mathlib.Core.Bool.{not, _&&_};
 ghost use Prim.Native.Nat.{_+_, _-_, _≤_, _<_};
 ghost use lib.Dec.{eqb, ltb};
 ghost use lib.ListN.{take};
 ghost use Rattle.books.specs.Words.{entryFrom, entriesFrom};
-ghost use Rattle.shapes.specs.Faults.{gatherOne, gatherFault, gatheredNone, round};
+ghost use Rattle.shapes.specs.Faults.{lowestSo, gatherOne, gatherFault, gatheredNone, round};
 ghost use Rattle.engines.specs.Check.{gatherAll};
 ghost use Rattle.xor.specs.Engine.{xor};
 
@@ -28,11 +31,11 @@ fn lack(share: u16, many: usize) -> usize
 }
 
 // The lowest list over its limit so far, or L.
-fn over_of(count: u16, list: u16, limit: u16, many: usize, over: u16) -> u16
-    ensures { λ r. ⌜ r ≡ cond (eqb over count && ltb limit many) list over ⌝ }
+fn over_of(lists: u16, list: u16, limit: u16, many: usize, over: u16) -> u16
+    ensures { λ r. ⌜ r ≡ lowestSo lists list (ltb limit many) over ⌝ }
 {
     let most = rules::wide(limit);
-    if over == count {
+    if over == lists {
         if most < many {
             return list;
         }
@@ -41,7 +44,7 @@ fn over_of(count: u16, list: u16, limit: u16, many: usize, over: u16) -> u16
 }
 
 // Did the walk come to its end, at the tail of that list? The tail is read last.
-fn ends_well(walk: LiveWalk, words: &[u16; 34], list: usize) -> bool
+fn ends_well(walk: LiveWalk, words: &Words, list: usize) -> bool
     requires { ⌜ list < 8 ⌝ }
     ensures { λ r. ⌜ r ≡ (walk .ok && eqb (walk .last) (entryFrom (now (words .entry)) list .tail)) ⌝ }
 {
@@ -51,49 +54,59 @@ fn ends_well(walk: LiveWalk, words: &[u16; 34], list: usize) -> bool
     false
 }
 
-// The length of the list that is asked for: of this list, or as it was.
-fn asked_length(wanted: u16, list: u16, many: usize, before: usize) -> usize
-    ensures { λ r. ⌜ r ≡ cond (eqb list wanted) many before ⌝ }
+// The lowest list whose stored length is not the number of its slots, so far, or L.
+fn wrong_of(lists: u16, list: u16, length: u16, many: usize, wrong: u16) -> u16
+    ensures { λ r. ⌜ r ≡ lowestSo lists list (not (eqb length many)) wrong ⌝ }
 {
-    if list == wanted {
-        return many;
+    if rules::wide(length) != many {
+        if wrong == lists {
+            return list;
+        }
     }
-    before
+    wrong
 }
 
-// One list more, number `list` of `count`, whose walk passed `many` slots. Neither sum wraps. An empty list lacks its whole share, and
-// nothing else of it counts.
-fn gather_one(
-    wanted: u16,
-    count: u16,
-    list: u16,
-    words: &[u16; 34],
-    many: usize,
-    g: Gathered,
-) -> Gathered
+// One list more, number `list` of `lists`, whose walk passed `many` slots. Neither sum wraps. What is right is asked first, so that
+// nothing is kept of a list that is within its limit and has its stored length: nearly every list is so. An empty one lacks its whole
+// share.
+fn gather_one(lists: u16, list: u16, words: &Words, many: usize, g: Gathered) -> Gathered
     requires { ⌜ (list < 8) × (g .live + many < 18446744073709551616) × (g .lacks + 65536 < 18446744073709551616) ⌝ }
-    ensures { λ r. ⌜ (r ≡ gatherOne wanted count list (entryFrom (now (words .entry)) list) many g) × (r .lacks ≤ g .lacks + 65535) ⌝ }
+    ensures { λ r. ⌜ (r ≡ gatherOne lists list (entryFrom (now (words .entry)) list) many g) × (r .lacks ≤ g .lacks + 65535) ⌝ }
 {
     let k = rules::wide(list);
     let fault = g.fault;
-    let length = asked_length(wanted, list, many, g.length);
     if many == 0 {
-        return Gathered {
-            fault,
-            live: g.live,
-            lacks: g.lacks + rules::wide(share_at(words, k)),
-            over: g.over,
-            length,
-        };
+        if length_at(words, k) == 0 {
+            return Gathered {
+                fault,
+                live: g.live,
+                lacks: g.lacks + rules::wide(share_at(words, k)),
+                over: g.over,
+                wrong: g.wrong,
+            };
+        }
     }
     let lacks = g.lacks + lack(share_at(words, k), many);
-    let over = over_of(count, list, limit_at(words, k), many, g.over);
+    let live = g.live + many;
+    if rules::wide(length_at(words, k)) == many {
+        if many <= rules::wide(limit_at(words, k)) {
+            return Gathered {
+                fault,
+                live,
+                lacks,
+                over: g.over,
+                wrong: g.wrong,
+            };
+        }
+    }
+    let over = over_of(lists, list, limit_at(words, k), many, g.over);
+    let wrong = wrong_of(lists, list, length_at(words, k), many, g.wrong);
     Gathered {
         fault,
-        live: g.live + many,
+        live,
         lacks,
         over,
-        length,
+        wrong,
     }
 }
 
@@ -110,12 +123,12 @@ fn gather_fault(list: u16, many: usize, g: Gathered) -> Gathered
         live: g.live,
         lacks: g.lacks,
         over: g.over,
-        length: g.length,
+        wrong: g.wrong,
     }
 }
 
-fn gathered_none(count: u16) -> Gathered
-    ensures { λ r. ⌜ r ≡ gatheredNone count ⌝ }
+fn gathered_none(lists: u16) -> Gathered
+    ensures { λ r. ⌜ r ≡ gatheredNone lists ⌝ }
 {
     Gathered {
         fault: Fault {
@@ -125,32 +138,26 @@ fn gathered_none(count: u16) -> Gathered
         },
         live: 0,
         lacks: 0,
-        over: count,
-        length: 0,
+        over: lists,
+        wrong: lists,
     }
 }
 
-// The walks along the first `count` lists, in number order, up to the first that fails. What the walk does not need of a list is read
+// The walks along the first `lists` lists, in number order, up to the first that fails. What the walk does not need of a list is read
 // after it: the walk leaves few registers for it.
-pub(crate) fn gather(
-    links: &[u16],
-    met: &mut [u8],
-    count: u16,
-    words: &[u16; 34],
-    wanted: u16,
-) -> Gathered
-    requires { ⌜ count ≤ 8 ⌝ }
-    ensures { λ r. ⌜ round r (now (met .exit)) ≡ gatherAll xor wanted count (now (links .entry)) 0 (take count (entriesFrom (now (words .entry)))) (now (met .entry)) (gatheredNone count) ⌝ }
+pub(crate) fn gather(links: &[u16], met: &mut [u8], lists: u16, words: &Words) -> Gathered
+    requires { ⌜ lists ≤ 8 ⌝ }
+    ensures { λ r. ⌜ round r (now (met .exit)) ≡ gatherAll xor lists (now (links .entry)) 0 (take lists (entriesFrom (now (words .entry)))) (now (met .entry)) (gatheredNone lists) ⌝ }
 {
-    let mut g = gathered_none(count);
+    let mut g = gathered_none(lists);
     let mut list: u16 = 0;
-    while list < count {
+    while list < lists {
         let k = rules::wide(list);
         let walk = walks::walk::walk_live(links, met, head_at(words, k));
         if !ends_well(walk, words, k) {
             return gather_fault(list, walk.length, g);
         }
-        g = gather_one(wanted, count, list, words, walk.length, g);
+        g = gather_one(lists, list, words, walk.length, g);
         list += 1;
     }
     g

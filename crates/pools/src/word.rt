@@ -8,12 +8,12 @@ ghost use mathlib.Core.Logic.{_≢_};
 ghost use Prim.Native.Nat.{_<_};
 ghost use Rattle.pools.specs.Word.{toldBy, fine, brokenAt, NoMore};
 
-// The number 0, and what was found in a sound pool.
-pub(crate) fn word_of(length: usize, lacks: usize, free: usize) -> usize
-    requires { ⌜ (length < 65536) × (lacks < 65536) × (free < 65536) ⌝ }
-    ensures { λ r. ⌜ (toldBy r ≡ fine length lacks free) × NoMore r ⌝ }
+// The number 0, and what the lists lack in a sound pool.
+pub(crate) fn word_of(lacks: usize) -> usize
+    requires { ⌜ lacks < 65536 ⌝ }
+    ensures { λ r. ⌜ (toldBy r ≡ fine lacks) × NoMore r ⌝ }
 {
-    65536 * (length + 65536 * (lacks + 65536 * free))
+    65536 * lacks
 }
 
 // The rule that is first broken, with its list and position.
@@ -41,9 +41,7 @@ pub fn told(word: usize) -> Looked
             refusal: Refusal::numbered(number),
             found: Found {
                 fault,
-                length: found % 65536,
-                lacks: spare % 65536,
-                free: spare / 65536,
+                lacks: found,
             },
         };
     }
@@ -53,11 +51,6 @@ pub fn told(word: usize) -> Looked
             list: (found % 65536) as u16,
             position: (spare % 65536) as u16,
         },
-        found: Found {
-            fault,
-            length: 0,
-            lacks: 0,
-            free: 0,
-        },
+        found: Found { fault, lacks: 0 },
     }
 }

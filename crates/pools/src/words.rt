@@ -1,8 +1,9 @@
-// The book as C has it, 34 words: L, then head, tail, share and limit of each entry, then the free head. This file alone knows where
-// each word stands. The check reads the words where they lie, so that no call has to copy a book.
+// The book as C has it, 43 words: L, then head, tail, share, limit and length of each entry, then the free head and the free count. This
+// file alone knows where each word stands. The check reads the words where they lie, so that no call has to copy a book.
 use books::Book;
 use books::Entry;
 use books::Free;
+use books::Words;
 ghost use mathlib.Core.Path.{_≡_};
 ghost use mathlib.Core.Bool.{_&&_};
 ghost use Prim.Native.Nat.{_<_};
@@ -15,7 +16,7 @@ ghost use Rattle.engines.specs.Calls.{freshBookOf};
 ghost use Rattle.pools.specs.Kept.{withEnds};
 
 // How many lists there are.
-pub fn lists_of(words: &[u16; 34]) -> u16
+pub fn lists_of(words: &Words) -> u16
     ensures { λ r. ⌜ r ≡ bookFrom (now (words .entry)) .lists ⌝ }
 {
     let lists = words[0];
@@ -23,7 +24,7 @@ pub fn lists_of(words: &[u16; 34]) -> u16
 }
 
 // Is there such a list, and a place for it? Once it is known, no read or store of the list's words asks for its place again.
-pub fn has_list(words: &[u16; 34], list: u16) -> bool
+pub fn has_list(words: &Words, list: u16) -> bool
     ensures { λ r. ⌜ r ≡ (ltb list (bookFrom (now (words .entry)) .lists) && ltb list mostLists) ⌝ }
 {
     if list < words[0] {
@@ -32,16 +33,17 @@ pub fn has_list(words: &[u16; 34], list: u16) -> bool
     false
 }
 
-// The idle chain.
-pub fn free_of(words: &[u16; 34]) -> Free
+// The free record.
+pub fn free_of(words: &Words) -> Free
     ensures { λ r. ⌜ r ≡ bookFrom (now (words .entry)) .free ⌝ }
 {
-    let head = words[33];
-    Free { head }
+    let head = words[41];
+    let count = words[42];
+    Free { head, count }
 }
 
 // The entry of a list, all zero where there is no such place.
-pub fn entry_of(words: &[u16; 34], list: u16) -> Entry
+pub fn entry_of(words: &Words, list: u16) -> Entry
     ensures { λ r. ⌜ r ≡ entryAt (bookFrom (now (words .entry)) .entries) list ⌝ }
 {
     let k = rules::wide(list);
@@ -52,90 +54,102 @@ pub fn entry_of(words: &[u16; 34], list: u16) -> Entry
     }
 }
 
-fn entry_at(words: &[u16; 34], list: usize) -> Entry
+fn entry_at(words: &Words, list: usize) -> Entry
     requires { ⌜ list < 8 ⌝ }
     ensures { λ r. ⌜ r ≡ entryFrom (now (words .entry)) list ⌝ }
 {
-    let k = 4 * list;
+    let k = 5 * list;
     Entry {
         head: words[k + 1],
         tail: words[k + 2],
         share: words[k + 3],
         limit: words[k + 4],
+        length: words[k + 5],
     }
 }
 
-pub(crate) fn head_at(words: &[u16; 34], list: usize) -> u16
+pub(crate) fn head_at(words: &Words, list: usize) -> u16
     requires { ⌜ list < 8 ⌝ }
     ensures { λ r. ⌜ r ≡ entryFrom (now (words .entry)) list .head ⌝ }
 {
-    words[4 * list + 1]
+    words[5 * list + 1]
 }
 
-pub(crate) fn tail_at(words: &[u16; 34], list: usize) -> u16
+pub(crate) fn tail_at(words: &Words, list: usize) -> u16
     requires { ⌜ list < 8 ⌝ }
     ensures { λ r. ⌜ r ≡ entryFrom (now (words .entry)) list .tail ⌝ }
 {
-    words[4 * list + 2]
+    words[5 * list + 2]
 }
 
-pub(crate) fn share_at(words: &[u16; 34], list: usize) -> u16
+pub(crate) fn share_at(words: &Words, list: usize) -> u16
     requires { ⌜ list < 8 ⌝ }
     ensures { λ r. ⌜ r ≡ entryFrom (now (words .entry)) list .share ⌝ }
 {
-    words[4 * list + 3]
+    words[5 * list + 3]
 }
 
-pub(crate) fn limit_at(words: &[u16; 34], list: usize) -> u16
+pub(crate) fn limit_at(words: &Words, list: usize) -> u16
     requires { ⌜ list < 8 ⌝ }
     ensures { λ r. ⌜ r ≡ entryFrom (now (words .entry)) list .limit ⌝ }
 {
-    words[4 * list + 4]
+    words[5 * list + 4]
+}
+
+pub(crate) fn length_at(words: &Words, list: usize) -> u16
+    requires { ⌜ list < 8 ⌝ }
+    ensures { λ r. ⌜ r ≡ entryFrom (now (words .entry)) list .length ⌝ }
+{
+    words[5 * list + 5]
 }
 
 // The words of a book.
-pub fn words_of(book: Book) -> [u16; 34]
+pub fn words_of(book: Book) -> Words
     ensures { λ r. ⌜ r ≡ wordsOf book ⌝ }
 {
     let entries = book.entries;
     let free = book.free;
-    let mut words = [0u16; 34];
+    let mut words = [0u16; 43];
     words[0] = book.lists;
     let mut list: usize = 0;
     while list < 8 {
         let entry = entries[list];
-        let k = 4 * list;
+        let k = 5 * list;
         words[k + 1] = entry.head;
         words[k + 2] = entry.tail;
         words[k + 3] = entry.share;
         words[k + 4] = entry.limit;
+        words[k + 5] = entry.length;
         list += 1;
     }
-    words[33] = free.head;
+    words[41] = free.head;
+    words[42] = free.count;
     words
 }
 
-// The words of a fresh pool's book: the lists are empty, with their shares and limits, and slot 1 is the free head.
-pub fn fresh_words(lists: u16, shares: &[u16; 8], limits: &[u16; 8]) -> [u16; 34]
-    ensures { λ r. ⌜ r ≡ wordsOf (bookOf (freshBookOf mostLists lists (now (shares .entry)) (now (limits .entry)))) ⌝ }
+// The words of a fresh pool's book: the lists are empty, with their shares and limits, slot 1 is the free head, and so many are free.
+pub fn fresh_words(lists: u16, shares: &[u16; 8], limits: &[u16; 8], free: u16) -> Words
+    ensures { λ r. ⌜ r ≡ wordsOf (bookOf (freshBookOf free mostLists lists (now (shares .entry)) (now (limits .entry)))) ⌝ }
 {
-    let mut words = [0u16; 34];
+    let mut words = [0u16; 43];
     words[0] = lists;
     let mut list: usize = 0;
     while list < 8 {
-        let k = 4 * list;
+        let k = 5 * list;
         words[k + 1] = Book::NULL;
         words[k + 2] = Book::NULL;
         words[k + 3] = shares[list];
         words[k + 4] = limits[list];
+        words[k + 5] = 0;
         list += 1;
     }
-    words[33] = 1;
+    words[41] = 1;
+    words[42] = free;
     words
 }
 
 // The book that the words are.
-fn book_from(words: &[u16; 34]) -> Book
+fn book_from(words: &Words) -> Book
     ensures { λ r. ⌜ r ≡ bookFrom (now (words .entry)) ⌝ }
 {
     let entries = entries_from(words);
@@ -146,7 +160,7 @@ fn book_from(words: &[u16; 34]) -> Book
     }
 }
 
-fn entries_from(words: &[u16; 34]) -> [Entry; 8]
+fn entries_from(words: &Words) -> [Entry; 8]
     ensures { λ r. ⌜ r ≡ entriesFrom (now (words .entry)) ⌝ }
 {
     let none = Entry::zero();
@@ -160,7 +174,7 @@ fn entries_from(words: &[u16; 34]) -> [Entry; 8]
     entries
 }
 
-// The book with another entry for one list, and another idle chain.
+// The book with another entry for one list, and another free record.
 pub fn with_list(book: Book, k: usize, entry: Entry, free: Free) -> Book
     ensures { λ r. ⌜ r ≡ bookOf (withList (eight book) k entry free) ⌝ }
 {
@@ -172,14 +186,15 @@ pub fn with_list(book: Book, k: usize, entry: Entry, free: Free) -> Book
     out
 }
 
-// The ends of a list and the idle chain, in the words themselves, where three of them are stored. The list's share and limit stay.
-pub fn put_list(words: &mut [u16; 34], list: u16, head: u16, tail: u16, free: Free)
-    ensures { λ _. ⌜ now (words .exit) ≡ wordsOf (bookOf (withList (eight (bookFrom (now (words .entry)))) list (withEnds head tail (entryAt (bookFrom (now (words .entry)) .entries) list)) free)) ⌝ }
+// The ends and the length of a list and the free record, in the words themselves, where five of them are stored. The list's share and
+// limit stay.
+pub fn put_list(words: &mut Words, list: u16, head: u16, tail: u16, many: u16, free: Free)
+    ensures { λ _. ⌜ now (words .exit) ≡ wordsOf (bookOf (withList (eight (bookFrom (now (words .entry)))) list (withEnds head tail many (entryAt (bookFrom (now (words .entry)) .entries) list)) free)) ⌝ }
 {
     let k = rules::wide(list);
     if k < 8 {
         if has_all(words) {
-            put_three(words, k, head, tail, free);
+            put_five(words, k, head, tail, many, free);
             return;
         }
     }
@@ -192,22 +207,25 @@ pub fn put_list(words: &mut [u16; 34], list: u16, head: u16, tail: u16, free: Fr
         tail,
         share: old.share,
         limit: old.limit,
+        length: many,
     };
     *words = words_of(with_list(held, k, entry, free));
 }
 
 fn has_all(words: &[u16]) -> bool
-    ensures { λ r. ⌜ r ≡ eqb (length (now (words .entry))) 34 ⌝ }
+    ensures { λ r. ⌜ r ≡ eqb (length (now (words .entry))) 43 ⌝ }
 {
-    words.len() == 34
+    words.len() == 43
 }
 
-fn put_three(words: &mut [u16; 34], list: usize, head: u16, tail: u16, free: Free)
-    requires { ⌜ (list < 8) × (length (now words) ≡ 34) ⌝ }
-    ensures { λ _. ⌜ now (words .exit) ≡ wordsOf (bookOf (withList (eight (bookFrom (now (words .entry)))) list (withEnds head tail (entryFrom (now (words .entry)) list)) free)) ⌝ }
+fn put_five(words: &mut Words, list: usize, head: u16, tail: u16, many: u16, free: Free)
+    requires { ⌜ (list < 8) × (length (now words) ≡ 43) ⌝ }
+    ensures { λ _. ⌜ now (words .exit) ≡ wordsOf (bookOf (withList (eight (bookFrom (now (words .entry)))) list (withEnds head tail many (entryFrom (now (words .entry)) list)) free)) ⌝ }
 {
-    let k = 4 * list;
+    let k = 5 * list;
     words[k + 1] = head;
     words[k + 2] = tail;
-    words[33] = free.head;
+    words[k + 5] = many;
+    words[41] = free.head;
+    words[42] = free.count;
 }

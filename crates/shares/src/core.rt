@@ -1,17 +1,14 @@
-// The core below every face: a push, a pop and a clear on one list, handed its entry, the idle chain and what the check found, and giving back
-// the first two with the number. The value of a pop goes into the word that the caller lends, and nowhere else. What was found must be
-// of this pool: of any other the promises say what comes, but a push or pop may answer 0 and have done nothing.
+// The core below every face: a push, a pop and a clear on one list, handed its entry and the free record, and giving them back with the
+// number; a push also has what the check found that the lists lack. The value of a pop goes into the word that the caller lends, and
+// nowhere else. The pool must be sound: of any other the promises say what comes, but a call may answer 0 and have done nothing.
 use books::Book;
 use books::Entry;
 use books::Free;
 use shapes::End;
-use shapes::Found;
 use shapes::ListChange;
 ghost use mathlib.Core.Path.{_≡_};
-ghost use Rattle.books.specs.Outcome.{outcome};
 ghost use Rattle.engines.specs.OnList.{onList, pushOn, popOn};
 ghost use Rattle.xor.specs.Along.{clearOnList};
-ghost use Rattle.xor.specs.Steps.{pushOf, popOf};
 ghost use Rattle.xor.specs.Engine.{xor};
 
 // Refused by 6 or 7; nothing changes then.
@@ -21,12 +18,13 @@ pub fn push(
     end: End,
     entry: Entry,
     free: Free,
-    found: Found,
+    lacks: usize,
     value: u64,
 ) -> ListChange
-    ensures { λ r. ⌜ onList r 0 (now (links .exit)) (now (values .exit)) ≡ pushOn xor (now (links .entry)) (now (values .entry)) entry free found end value ⌝ }
+    ensures { λ r. ⌜ onList r 0 (now (links .exit)) (now (values .exit)) ≡ pushOn xor (now (links .entry)) (now (values .entry)) entry free lacks end value ⌝ }
 {
-    let number = crate::refusals::push_number(entry, found.length, found.lacks, found.free);
+    let many = rules::wide(entry.length);
+    let number = crate::refusals::push_number(entry, many, lacks, rules::wide(free.count));
     if number != 0 {
         return ListChange {
             number,
@@ -34,7 +32,7 @@ pub fn push(
             free,
         };
     }
-    let gone = push_at(links, values, end, entry, free, value);
+    let gone = crate::counted::push(links, values, end, entry, free, value);
     let left = gone.entry;
     let rest = gone.free;
     ListChange {
@@ -51,12 +49,11 @@ pub fn pop(
     end: End,
     entry: Entry,
     free: Free,
-    found: Found,
     value: &mut u64,
 ) -> ListChange
-    ensures { λ r. ⌜ onList r (now (value .exit)) (now (links .exit)) (now (values .exit)) ≡ popOn xor (now (links .entry)) (now (values .entry)) entry free found end ⌝ }
+    ensures { λ r. ⌜ onList r (now (value .exit)) (now (links .exit)) (now (values .exit)) ≡ popOn xor (now (links .entry)) (now (values .entry)) entry free end ⌝ }
 {
-    let number = crate::refusals::pop_number(found.length);
+    let number = crate::refusals::pop_number(rules::wide(entry.length));
     if number != 0 {
         *value = 0;
         return ListChange {
@@ -65,7 +62,7 @@ pub fn pop(
             free,
         };
     }
-    let gone = pop_at(links, values, end, entry, free);
+    let gone = crate::counted::pop(links, values, end, entry, free);
     *value = gone.value;
     let left = gone.entry;
     let rest = gone.free;
@@ -76,17 +73,12 @@ pub fn pop(
     }
 }
 
-// The list's slots, as many as the check found, are wiped and free. It is not refused.
-pub fn clear(
-    links: &mut [u16],
-    values: &mut [u64],
-    entry: Entry,
-    free: Free,
-    found: Found,
-) -> ListChange
-    ensures { λ r. ⌜ onList r 0 (now (links .exit)) (now (values .exit)) ≡ clearOnList (now (links .entry)) (now (values .entry)) entry free found ⌝ }
+// The list's slots, as many as its length says, are wiped and free. It is not refused.
+pub fn clear(links: &mut [u16], values: &mut [u64], entry: Entry, free: Free) -> ListChange
+    ensures { λ r. ⌜ onList r 0 (now (links .exit)) (now (values .exit)) ≡ clearOnList (now (links .entry)) (now (values .entry)) entry free ⌝ }
 {
-    let rest = walks::clear::clear(links, values, entry.head, free, found.length);
+    let count = crate::counted::sum(free.count, entry.length);
+    let rest = walks::clear::clear(links, values, entry.head, free, rules::wide(entry.length));
     ListChange {
         number: 0,
         entry: Entry {
@@ -94,38 +86,8 @@ pub fn clear(
             tail: Book::NULL,
             share: entry.share,
             limit: entry.limit,
+            length: 0,
         },
-        free: rest,
-    }
-}
-
-fn push_at(
-    links: &mut [u16],
-    values: &mut [u64],
-    end: End,
-    entry: Entry,
-    free: Free,
-    value: u64,
-) -> shapes::PushStep
-    ensures { λ r. ⌜ outcome r (now (links .exit)) (now (values .exit)) ≡ pushOf end (now (links .entry)) (now (values .entry)) entry free value ⌝ }
-{
-    match end {
-        End::Front => lists::push_front(links, values, entry, free, value),
-        End::Back => lists::push_back(links, values, entry, free, value),
-    }
-}
-
-fn pop_at(
-    links: &mut [u16],
-    values: &mut [u64],
-    end: End,
-    entry: Entry,
-    free: Free,
-) -> shapes::PopStep
-    ensures { λ r. ⌜ outcome r (now (links .exit)) (now (values .exit)) ≡ popOf end (now (links .entry)) (now (values .entry)) entry free ⌝ }
-{
-    match end {
-        End::Front => lists::pop_front(links, values, entry, free),
-        End::Back => lists::pop_back(links, values, entry, free),
+        free: crate::counted::with_count(count, rest),
     }
 }

@@ -14,7 +14,7 @@ ghost use Rattle.engines.specs.Calls.{pushCall, popCall};
 ghost use Rattle.xor.specs.Engine.{xor};
 ghost use Rattle.xor.specs.Ten.{asAnswer, asPopped, pushBackOf, pushFrontOf, popBackOf, popFrontOf};
 
-// Refused by 1, 9 to 15, 4, 6 or 7; the book comes back as it went in then, and neither slice changes.
+// Refused by 1, 9 to 16, 4, 6 or 7; the book comes back as it went in then, and neither slice changes.
 pub fn push_back(links: &mut [u16], values: &mut [u64], book: Book, list: u16, value: u64) -> Answer
     ensures { λ r. ⌜ outcome r (now (links .exit)) (now (values .exit)) ≡ pushBackOf (now (links .entry)) (now (values .entry)) book list value ⌝ }
 {
@@ -34,7 +34,7 @@ pub fn push_front(
     push(links, values, End::Front, book, list, value)
 }
 
-// Refused by 1, 9 to 15, 4 or 5; value 0 and the book as it went in come back then, and neither slice changes.
+// Refused by 1, 9 to 16, 4 or 5; value 0 and the book as it went in come back then, and neither slice changes.
 pub fn pop_back(links: &mut [u16], values: &mut [u64], book: Book, list: u16) -> Popped
     ensures { λ r. ⌜ outcome r (now (links .exit)) (now (values .exit)) ≡ popBackOf (now (links .entry)) (now (values .entry)) book list ⌝ }
 {
@@ -48,7 +48,7 @@ pub fn pop_front(links: &mut [u16], values: &mut [u64], book: Book, list: u16) -
     pop(links, values, End::Front, book, list)
 }
 
-// The check reads the book as words; the push itself has one entry of it, and the free head.
+// The check reads the book as words; the push itself has one entry of it, and the idle chain.
 fn push(
     links: &mut [u16],
     values: &mut [u64],
@@ -60,7 +60,7 @@ fn push(
     ensures { λ r. ⌜ outcome r (now (links .exit)) (now (values .exit)) ≡ asAnswer (pushCall xor (now (links .entry)) (now (values .entry)) (eight book) list end value) ⌝ }
 {
     let words = words_of(book);
-    let word = pools::check::look(links, values, &words, list);
+    let word = pools::check::look(links, values, &words);
     let seen = pools::word::told(word);
     let refusal = seen.refusal;
     let early = crate::refusals::list_refusal(refusal, book.lists, list);
@@ -74,7 +74,7 @@ fn push(
     let k = rules::wide(list);
     let entry = book.entries[k];
     let free = book.free;
-    let gone = crate::core::push(links, values, end, entry, free, found, value);
+    let gone = crate::core::push(links, values, end, entry, free, found.lacks, value);
     Answer {
         refusal: Refusal {
             number: gone.number,
@@ -89,19 +89,18 @@ fn pop(links: &mut [u16], values: &mut [u64], end: End, book: Book, list: u16) -
     ensures { λ r. ⌜ outcome r (now (links .exit)) (now (values .exit)) ≡ asPopped (popCall xor (now (links .entry)) (now (values .entry)) (eight book) list end) ⌝ }
 {
     let words = words_of(book);
-    let word = pools::check::look(links, values, &words, list);
+    let word = pools::check::look(links, values, &words);
     let seen = pools::word::told(word);
     let refusal = seen.refusal;
     let early = crate::refusals::list_refusal(refusal, book.lists, list);
     if early.number != 0 {
         return popped(early, 0, book);
     }
-    let found = seen.found;
     let k = rules::wide(list);
     let entry = book.entries[k];
     let free = book.free;
     let mut value: u64 = 0;
-    let gone = crate::core::pop(links, values, end, entry, free, found, &mut value);
+    let gone = crate::core::pop(links, values, end, entry, free, &mut value);
     popped(
         Refusal {
             number: gone.number,

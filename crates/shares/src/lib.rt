@@ -2,6 +2,7 @@
 pub mod check;
 pub mod clear;
 pub mod core;
+mod counted;
 pub mod ends;
 pub mod reads;
 pub mod refusals;

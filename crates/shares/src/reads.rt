@@ -4,6 +4,7 @@ use books::Book;
 use books::Length;
 use books::Read;
 use books::Refusal;
+use books::Words;
 use pools::words::entry_of;
 use pools::words::lists_of;
 use pools::words::words_of;
@@ -16,7 +17,7 @@ ghost use Rattle.engines.specs.Calls.{readCall};
 ghost use Rattle.xor.specs.Engine.{xor};
 ghost use Rattle.xor.specs.Ten.{lengthOf, readForwardOf, readBackwardOf};
 
-// How many slots a list has. Refused by 1, 9 to 15 or 4, with length 0.
+// How many slots a list has, as the book says once it is checked. Refused by 1, 9 to 16 or 4, with length 0.
 pub fn length(links: &[u16], values: &[u64], book: Book, list: u16) -> Length
     ensures { λ r. ⌜ r ≡ lengthOf (now (links .entry)) (now (values .entry)) book list ⌝ }
 {
@@ -24,7 +25,7 @@ pub fn length(links: &[u16], values: &[u64], book: Book, list: u16) -> Length
     length_words(links, values, &words, list)
 }
 
-// The list's values from the front on, into `buffer` from place `at` on. Refused by 1, 9 to 15, 4 or 8, with count 0, and the buffer as it was.
+// The list's values from the front on, into `buffer` from place `at` on. Refused by 1, 9 to 16, 4 or 8, with count 0, and the buffer as it was.
 pub fn read_forward(
     links: &[u16],
     values: &[u64],
@@ -55,10 +56,10 @@ pub fn read_backward(
 }
 
 // Length for a book that lies in words.
-pub fn length_words(links: &[u16], values: &[u64], words: &[u16; 34], list: u16) -> Length
+pub fn length_words(links: &[u16], values: &[u64], words: &Words, list: u16) -> Length
     ensures { λ r. ⌜ r ≡ lengthOf (now (links .entry)) (now (values .entry)) (bookFrom (now (words .entry))) list ⌝ }
 {
-    let word = pools::check::look(links, values, words, list);
+    let word = pools::check::look(links, values, words);
     let seen = pools::word::told(word);
     let refusal = seen.refusal;
     let early = list_refusal(refusal, lists_of(words), list);
@@ -68,15 +69,14 @@ pub fn length_words(links: &[u16], values: &[u64], words: &[u16; 34], list: u16)
             length: 0,
         };
     }
-    let found = seen.found;
-    let many = found.length as u16;
+    let entry = entry_of(words, list);
     Length {
         refusal: Refusal {
             number: 0,
             list: 0,
             position: 0,
         },
-        length: many,
+        length: entry.length,
     }
 }
 
@@ -85,22 +85,22 @@ pub fn read_words(
     links: &[u16],
     values: &[u64],
     end: End,
-    words: &[u16; 34],
+    words: &Words,
     list: u16,
     buffer: &mut [u64],
     at: usize,
 ) -> Read
     ensures { λ r. ⌜ readLeft r (now (buffer .exit)) ≡ readCall xor (now (links .entry)) (now (values .entry)) (eight (bookFrom (now (words .entry)))) list end (now (buffer .entry)) at ⌝ }
 {
-    let word = pools::check::look(links, values, words, list);
+    let word = pools::check::look(links, values, words);
     let seen = pools::word::told(word);
     let refusal = seen.refusal;
     let early = list_refusal(refusal, lists_of(words), list);
     if early.number != 0 {
         return refused(early);
     }
-    let found = seen.found;
-    let number = crate::refusals::read_number(found.length, buffer.len(), at);
+    let entry = entry_of(words, list);
+    let number = crate::refusals::read_number(rules::wide(entry.length), buffer.len(), at);
     if number != 0 {
         return refused(Refusal {
             number,
@@ -108,7 +108,7 @@ pub fn read_words(
             position: 0,
         });
     }
-    let start = lists::near_of(end, entry_of(words, list));
+    let start = lists::near_of(end, entry);
     let count = walks::reads::read(links, values, start, buffer, at);
     let many = count as u16;
     Read {

@@ -1,4 +1,4 @@
-// Which number a call on a list is refused by, in order: 1, 9 to 15 and 4 first, then what the call itself asks for.
+// Which number a call on a list is refused by, in order: 1, 9 to 16 and 4 first, then what the call itself asks for.
 use books::Entry;
 use books::Refusal;
 ghost use mathlib.Core.Path.{_≡_};

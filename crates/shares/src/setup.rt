@@ -5,7 +5,7 @@ use books::Entry;
 use books::Free;
 use books::Refusal;
 ghost use mathlib.Core.Path.{_≡_};
-ghost use Prim.Native.Nat.{_≤_};
+ghost use Prim.Native.Nat.{_-_, _%_, _≤_};
 ghost use lib.ListN.{length, take, drop};
 ghost use Rattle.books.specs.Place.{numbered};
 ghost use Rattle.books.specs.Tabulate.{tabulate};
@@ -33,13 +33,14 @@ pub fn setup(
     if number != 0 {
         return refused(number);
     }
+    let free = free_slots(links.len());
     Answer {
         refusal: Refusal {
             number,
             list: 0,
             position: 0,
         },
-        book: fresh_book(lists, shares, limits),
+        book: fresh_book(lists, shares, limits, free),
     }
 }
 
@@ -66,7 +67,7 @@ pub fn lay_out(
 
 // Would the book of such lists keep the book rules in a pool of so many slots?
 fn may_set_up(lists: u16, shares: &[u16; 8], limits: &[u16; 8], size: usize) -> bool
-    ensures { λ r. ⌜ r ≡ keepsRules size (freshBookOf mostLists lists (now (shares .entry)) (now (limits .entry))) ⌝ }
+    ensures { λ r. ⌜ r ≡ keepsRules size (freshBookOf (size - 1) mostLists lists (now (shares .entry)) (now (limits .entry))) ⌝ }
 {
     if lists == 0 {
         return false;
@@ -132,13 +133,26 @@ fn refused(number: u16) -> Answer
     }
 }
 
-fn fresh_book(lists: u16, shares: [u16; 8], limits: [u16; 8]) -> Book
-    ensures { λ r. ⌜ r ≡ bookOf (freshBookOf mostLists lists shares limits) ⌝ }
+// How many slots of a fresh pool are free: all but the null slot.
+pub fn free_slots(size: usize) -> u16
+    ensures { λ r. ⌜ r ≡ (size - 1) % 65536 ⌝ }
+{
+    if size == 0 {
+        return 0;
+    }
+    ((size - 1) % 65536) as u16
+}
+
+fn fresh_book(lists: u16, shares: [u16; 8], limits: [u16; 8], free: u16) -> Book
+    ensures { λ r. ⌜ r ≡ bookOf (freshBookOf free mostLists lists shares limits) ⌝ }
 {
     Book {
         lists,
         entries: fresh_entries(shares, limits),
-        free: Free { head: 1 },
+        free: Free {
+            head: 1,
+            count: free,
+        },
     }
 }
 

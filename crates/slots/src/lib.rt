@@ -1,4 +1,5 @@
-// Layer 1: a slot is taken from the idle chain, or released to it and wiped (000: `Node`, `PPtr::new`, `into_inner`).
+// Layer 1: a slot is taken from the idle chain, or released to it and wiped (000: `Node`, `PPtr::new`, `into_inner`). The stored count of
+// the free slots stays as it is: the calls count.
 use books::Book;
 use books::Free;
 use shapes::Released;
@@ -29,7 +30,13 @@ pub fn take(links: &[u16], values: &[u64], free: Free) -> Taken
     let slot = free.head;
     if in_pool(links, values, slot) {
         let i = slot as usize;
-        Taken::Slot(slot, Free { head: links[i] })
+        Taken::Slot(
+            slot,
+            Free {
+                head: links[i],
+                count: free.count,
+            },
+        )
     } else {
         Taken::Nothing
     }
@@ -46,7 +53,10 @@ pub fn release(links: &mut [u16], values: &mut [u64], slot: u16, free: Free) -> 
         values[i] = Book::WIPE;
         Released {
             done: true,
-            free: Free { head: slot },
+            free: Free {
+                head: slot,
+                count: free.count,
+            },
         }
     } else {
         Released { done: false, free }

@@ -7,7 +7,7 @@ ghost use Rattle.books.specs.Outcome.{outcome};
 ghost use Rattle.xor.specs.Along.{clearAlong};
 
 // At most `count` slots from `start` on: a slot's link becomes the free head, its value the wipe word, and it becomes the free head.
-// Answers the idle chain then. A number that has no link or no value ends it; what was done before is done.
+// Answers the idle chain then, its stored count as it was. A number that has no link or no value ends it; what was done before is done.
 // Each cell is stored once, where popping the front would change the neighbour's link too. A slot is kept as an index.
 pub fn clear(links: &mut [u16], values: &mut [u64], start: u16, free: Free, count: usize) -> Free
     ensures { λ r. ⌜ outcome r (now (links .exit)) (now (values .exit)) ≡ clearAlong count (now (links .entry)) (now (values .entry)) nullSlot start free ⌝ }
@@ -19,7 +19,10 @@ pub fn clear(links: &mut [u16], values: &mut [u64], start: u16, free: Free, coun
     let size = crate::least(links.len(), values.len());
     while 0 < left {
         if size <= slot {
-            return Free { head: head as u16 };
+            return Free {
+                head: head as u16,
+                count: free.count,
+            };
         }
         let next = rules::wide(links[slot]) ^ last;
         links[slot] = head as u16;
@@ -29,5 +32,8 @@ pub fn clear(links: &mut [u16], values: &mut [u64], start: u16, free: Free, coun
         slot = next;
         left -= 1;
     }
-    Free { head: head as u16 }
+    Free {
+        head: head as u16,
+        count: free.count,
+    }
 }

@@ -35,19 +35,19 @@ returns-2 c =
     handed-by _ refl refl refl (sym (kept-refused _ _ _ four)) (pop-early _ _ _ _ _ e four Back refl)
 
 keep-requires : tie.Need-keep-requires
-keep-requires c κs = pop-grants _ _ _ _ _ _ (c .before .before .before .before .before .pop .ensures) (c .before .before .before .before .before .before .before .before .before .before .before .entry-of .ensures)
+keep-requires c κs = pop-grants _ _ _ _ _ (c .before .before .before .before .before .pop .ensures) (c .before .before .before .before .before .before .before .before .before .before .before .entry-of .ensures)
 
 returns-3 : tie.Need-returns-3
 returns-3 c =
     let gone = c .before .before .before .before .before .before in
-    let past = c .before .before .before .before .before .before .before .before .before .before .before .before .before .before .before in
+    let past = c .before .before .before .before .before .before .before .before .before .before .before .before .before .before in
     let at = past .before .before .before .before .before .before in
     let a = start at .args in
     let (e, z) = list-passes _ _ (now (a .book)) _ _ (at .told .ensures ∙ at .before .look .ensures .0) (past .before .before .before .if1 .left) _ (past .before .has-list .ensures) (not-false (past .before .has-list .result) (past .if2 .left)) in
     let q =
     gone .pop .ensures
-    ∙ ap (λ (x : Entry). popOn xor (now (a .links)) (now (a .values)) x (c .before .before .before .before .before .before .before .before .before .before .free-of .result) (at .told .result .found) Back) (c .before .before .before .before .before .before .before .before .before .before .before .before .entry-of .ensures)
-    ∙ ap (λ (x : Free). popOn xor (now (a .links)) (now (a .values)) (entryAt (bookFrom (now (a .book)) .entries) (a .list)) x (at .told .result .found) Back) (c .before .before .before .before .before .before .before .before .before .before .free-of .ensures) in
+    ∙ ap (λ (x : Entry). popOn xor (now (a .links)) (now (a .values)) x (c .before .before .before .before .before .before .before .before .before .before .free-of .result) Back) (c .before .before .before .before .before .before .before .before .before .before .before .before .entry-of .ensures)
+    ∙ ap (λ (x : Free). popOn xor (now (a .links)) (now (a .values)) (entryAt (bookFrom (now (a .book)) .entries) (a .list)) x Back) (c .before .before .before .before .before .before .before .before .before .before .free-of .ensures) in
     handed-by _ (c .keep .ensures .0) refl refl (c .keep .ensures .1) (pop-put _ _ _ _ _ e z refl refl Back refl q)
 
 pub flailreeve-pop-back-spec : {M : Type 1} → statement M

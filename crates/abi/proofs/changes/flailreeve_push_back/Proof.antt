@@ -46,8 +46,8 @@ returns-3 c =
     let (e, z) = list-passes _ _ (now (a .book)) _ _ (at .told .ensures ∙ at .before .look .ensures .0) (past .before .before .before .if1 .left) _ (past .before .has-list .ensures) (not-false (past .before .has-list .result) (past .if2 .left)) in
     let q =
     gone .push .ensures
-    ∙ ap (λ (x : Entry). pushOn xor (now (a .links)) (now (a .values)) x (c .before .before .before .before .before .before .before .before .before .free-of .result) (at .told .result .found) Back (a .value)) (c .before .before .before .before .before .before .before .before .before .before .before .entry-of .ensures)
-    ∙ ap (λ (x : Free). pushOn xor (now (a .links)) (now (a .values)) (entryAt (bookFrom (now (a .book)) .entries) (a .list)) x (at .told .result .found) Back (a .value)) (c .before .before .before .before .before .before .before .before .before .free-of .ensures) in
+    ∙ ap (λ (x : Entry). pushOn xor (now (a .links)) (now (a .values)) x (c .before .before .before .before .before .before .before .before .before .free-of .result) (at .told .result .found .lacks) Back (a .value)) (c .before .before .before .before .before .before .before .before .before .before .before .entry-of .ensures)
+    ∙ ap (λ (x : Free). pushOn xor (now (a .links)) (now (a .values)) (entryAt (bookFrom (now (a .book)) .entries) (a .list)) x (at .told .result .found .lacks) Back (a .value)) (c .before .before .before .before .before .before .before .before .before .free-of .ensures) in
     changed-by _ (c .keep .ensures .0) refl (c .keep .ensures .1) (push-put _ _ _ _ _ e z refl refl Back (a .value) q)
 
 pub flailreeve-push-back-spec : {M : Type 1} → statement M

@@ -29,10 +29,10 @@ module _ (c : tie.After-gather) where
   start = c .before .before .before .before .before .before
 
   gathered : round (c .gather .result) (c .gather .last .1 .0)
-      ≡ gatherAll xor (start .args .wanted) (bookFrom (now (start .args .words)) .lists) (now (start .args .links)) 0 (used start) (set (now (start .args .met)) 0 0) (gatheredNone (bookFrom (now (start .args .words)) .lists))
+      ≡ gatherAll xor (bookFrom (now (start .args .words)) .lists) (now (start .args .links)) 0 (used start) (set (now (start .args .met)) 0 0) (gatheredNone (bookFrom (now (start .args .words)) .lists))
   gathered =
       c .gather .ensures
-      ∙ ap (λ (n : ℕ). gatherAll xor (start .args .wanted) n (now (start .args .links)) 0 (take n (entriesFrom (now (start .args .words)))) (set (now (start .args .met)) 0 0) (gatheredNone n)) (c .before .before .lists-of .ensures)
+      ∙ ap (λ (n : ℕ). gatherAll xor n (now (start .args .links)) 0 (take n (entriesFrom (now (start .args .words)))) (set (now (start .args .met)) 0 0) (gatheredNone n)) (c .before .before .lists-of .ensures)
 
 -- the null slot has a place
 first-place : tie.Need-slice-write-met
@@ -45,13 +45,13 @@ returns : tie.Need-returns
 returns c =
     let g = c .before .before .before .before .before .before in
     let s = start g in
-    c .faulty .ensures ∙ pool-fault xor _ _ (used s) (as-many s) (nothing-again _ (s .pre .1)) (gathered g) _ _ (s .pre .3) (c .before .if1 .taken)
+    c .faulty .ensures ∙ pool-fault xor _ (used s) (as-many s) (nothing-again _ (s .pre .1)) (gathered g) _ _ (s .pre .3) (c .before .if1 .taken)
 
 find-idle-requires : tie.Need-find-idle-requires
 find-idle-requires c κs =
     let g = c .before .before .before .before .before .before .before in
     let s = start g in
-    (s .pre .0 .size, pool-live xor _ _ (used s) (as-many s) (nothing-again _ (s .pre .1)) (gathered g))
+    (s .pre .0 .size, pool-live xor _ (used s) (as-many s) (nothing-again _ (s .pre .1)) (gathered g))
 
 returns-2 : tie.Need-returns-2
 returns-2 c =
@@ -60,7 +60,7 @@ returns-2 c =
     let s = start g in
     let a = s .args in
     let r = round (g .gather .result) (g .gather .last .1 .0) in
-    pool-idle-found xor _ _ (used s) (as-many s) (nothing-again _ (s .pre .1)) (gathered g) _ _ (s .pre .3) (i .before .before .before .if1 .left)
+    pool-idle-found xor _ (used s) (as-many s) (nothing-again _ (s .pre .1)) (gathered g) _ _ (s .pre .3) (i .before .before .before .if1 .left)
     (i .find-idle .ensures
     ∙ ap (λ (n : ℕ). idleFound (length (now (a .links))) (now (a .values)) (i .before .free-of .result) n r (idlePath xor (now (a .links)) (now (a .values)) (g .gather .last .1 .0) (i .before .free-of .result))) (g .before .before .lists-of .ensures)
     ∙ ap (λ (f : Free). idleFound (length (now (a .links))) (now (a .values)) f (bookFrom (now (a .words)) .lists) r (idlePath xor (now (a .links)) (now (a .values)) (g .gather .last .1 .0) f)) (i .before .free-of .ensures))

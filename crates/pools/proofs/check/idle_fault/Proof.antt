@@ -27,11 +27,13 @@ returns-3 c =
 returns-4 : tie.Need-returns-4
 unfolding idleFault
 returns-4 c =
+    let on = c .before .before in
     simp (
-      not-false (c .before .before .before .before .before .before .args .ended) (c .before .before .before .before .if1 .left),
-      eq-eqb _ _ (c .before .before .if2 .left),
-      eq-eqb _ _ (c .before .if3 .left),
+      not-false (on .before .before .before .before .before .args .ended) (on .before .before .before .if1 .left),
+      eq-eqb _ _ (on .before .if2 .left),
+      eq-eqb _ _ (on .if3 .left),
       c .spare-fault .ensures,
+      c .before .count-fault .ensures,
     )
 
 pub idle-fault-spec : {M : Type 1} → statement M
@@ -45,5 +47,6 @@ idle-fault-spec =
     returns-2
     (λ c. search needs)
     returns-3
+    (λ c. search needs)
     (λ c. search needs)
     returns-4)

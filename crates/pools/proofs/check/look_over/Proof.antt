@@ -44,18 +44,18 @@ module _ (c : tie.After-find-over) where
   abbrev start : tie.Start
   start = c .before .before .before .before .before .before .before .before .before .before .before .before .before .before .before
 
-  found : c .find-over .result ≡ checkFound xor (start .args .wanted) (now (start .args .links)) (now (start .args .values)) (eight (bookFrom (now (start .args .words))))
-  found = kept-found _ _ _ _ (start .pre .0) (kept (c .before .before .before .before .before .before .before .before)) _ (rw (all-links start, all-values start) at (c .find-over .ensures))
+  found : c .find-over .result ≡ checkFound xor (now (start .args .links)) (now (start .args .values)) (eight (bookFrom (now (start .args .words))))
+  found = kept-found _ _ _ (start .pre .0) (kept (c .before .before .before .before .before .before .before .before)) _ (rw (all-links start, all-values start) at (c .find-over .ensures))
 
 returns : tie.Need-returns
 unfolding keepsRules
-returns c = (look-nine _ _ _ _ (c .before .before .before .before .before .pre .0) (simp (← c .before .lists-of .ensures, c .if1 .taken)), λ d. omega arith)
+returns c = (look-nine _ _ _ (c .before .before .before .before .before .pre .0) (simp (← c .before .lists-of .ensures, c .if1 .taken)), λ d. omega arith)
 
 returns-2 : tie.Need-returns-2
-returns-2 c = (look-nine _ _ _ _ (c .before .before .before .before .before .before .before .pre .0) (sym (c .before .keeps-rules .ensures) ∙ not-true (c .before .keeps-rules .result) (c .if2 .taken)), λ d. omega arith)
+returns-2 c = (look-nine _ _ _ (c .before .before .before .before .before .before .before .pre .0) (sym (c .before .keeps-rules .ensures) ∙ not-true (c .before .keeps-rules .result) (c .if2 .taken)), λ d. omega arith)
 
 returns-3 : tie.Need-returns-3
-returns-3 c = (look-ten _ _ _ _ (c .before .before .before .before .before .before .before .before .before .before .before .pre .0) (kept (c .before .before .before .before)) (sym (tested (c .before)) ∙ not-true (c .before .null-slot-zero .result) (c .if3 .taken)), λ d. omega arith)
+returns-3 c = (look-ten _ _ _ (c .before .before .before .before .before .before .before .before .before .before .before .pre .0) (kept (c .before .before .before .before)) (sym (tested (c .before)) ∙ not-true (c .before .null-slot-zero .result) (c .if3 .taken)), λ d. omega arith)
 
 slice-aggregate-null-slot-zero : tie.Need-slice-aggregate-null-slot-zero
 slice-aggregate-null-slot-zero c = ap (λ (l : List ℕ). length l) (sym (all-links (c .before .before .before .before .before .before .before .before)))
@@ -88,16 +88,16 @@ find-over-requires c κs =
     )
 
 fault-word-requires : tie.Need-fault-word-requires
-fault-word-requires c κs = (c .if4 .taken, rw (found (c .before .before .before .before .before)) (place-below _ _ _ _ (start (c .before .before .before .before .before) .pre .0)))
+fault-word-requires c κs = (c .if4 .taken, rw (found (c .before .before .before .before .before)) (place-below _ _ _ (start (c .before .before .before .before .before) .pre .0)))
 
 returns-4 : tie.Need-returns-4
-returns-4 c = (c .fault-word .ensures .0 ∙ look-unsound _ _ _ _ (start (c .before .before .before .before .before .before) .pre .0) _ (found (c .before .before .before .before .before .before)) (c .before .if4 .taken), c .fault-word .ensures .1)
+returns-4 c = (c .fault-word .ensures .0 ∙ look-unsound _ _ _ (start (c .before .before .before .before .before .before) .pre .0) _ (found (c .before .before .before .before .before .before)) (c .before .if4 .taken), c .fault-word .ensures .1)
 
 word-of-requires : tie.Need-word-of-requires
-word-of-requires c κs = rw (found (c .before .before .before .before .before)) (found-below _ _ _ _ (start (c .before .before .before .before .before) .pre .0) (rw (found (c .before .before .before .before .before)) at (c .if4 .left)))
+word-of-requires c κs = rw (found (c .before .before .before .before .before)) (found-below _ _ _ (start (c .before .before .before .before .before) .pre .0) (rw (found (c .before .before .before .before .before)) at (c .if4 .left)))
 
 returns-5 : tie.Need-returns-5
-returns-5 c = (c .word-of .ensures .0 ∙ look-fine _ _ _ _ (start (c .before .before .before .before .before .before) .pre .0) _ (found (c .before .before .before .before .before .before)) (c .before .if4 .left), c .word-of .ensures .1)
+returns-5 c = (c .word-of .ensures .0 ∙ look-fine _ _ _ (start (c .before .before .before .before .before .before) .pre .0) _ (found (c .before .before .before .before .before .before)) (c .before .if4 .left), c .word-of .ensures .1)
 
 pub look-over-spec : {M : Type 1} → statement M
 look-over-spec =

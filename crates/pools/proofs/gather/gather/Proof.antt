@@ -24,22 +24,22 @@ use Rattle.pools.proofs.gather.gather.Statement.{statement}
 use Rattle.pools.proofs.gather.gather.Tie as tie
 
 abbrev Inv-loop : tie.InvT-loop
-Inv-loop links met₀ count words wanted g₀ list₀ met g list =
-    (gatherAll xor wanted count links list (drop list (take count (entriesFrom words))) met g ≡ gatherAll xor wanted count links 0 (take count (entriesFrom words)) met₀ (gatheredNone count))
-    × (g .live + unmet met ≤ unmet met₀) × (g .lacks ≤ 65535 * list) × (length met ≡ length met₀) × (list ≤ count)
+Inv-loop links met₀ lists words g₀ list₀ met g list =
+    (gatherAll xor lists links list (drop list (take lists (entriesFrom words))) met g ≡ gatherAll xor lists links 0 (take lists (entriesFrom words)) met₀ (gatheredNone lists))
+    × (g .live + unmet met ≤ unmet met₀) × (g .lacks ≤ 65535 * list) × (length met ≡ length met₀) × (list ≤ lists)
 
 abbrev μ-loop : tie.MeasureT-loop
-μ-loop links met₀ count words wanted g₀ list₀ met g list = count - list
+μ-loop links met₀ lists words g₀ list₀ met g list = lists - list
 
 abbrev used : tie.Start Inv-loop μ-loop → List Entry
-used s = take (s .args .count) (entriesFrom (now (s .args .words)))
+used s = take (s .args .lists) (entriesFrom (now (s .args .words)))
 
-as-many : (s : tie.Start Inv-loop μ-loop) → length (used s) ≡ s .args .count
-as-many s = used-many (entryFrom (now (s .args .words))) (s .args .count) (s .pre)
+as-many : (s : tie.Start Inv-loop μ-loop) → length (used s) ≡ s .args .lists
+as-many s = used-many (entryFrom (now (s .args .words))) (s .args .lists) (s .pre)
 
 -- the entry that is read is the list's own
-same-entry : (s : tie.Start Inv-loop μ-loop) (k list : ℕ) → k ≡ list → list < s .args .count → entryFrom (now (s .args .words)) k ≡ entryAt (used s) list
-same-entry s k list e h = ap (entryFrom (now (s .args .words))) e ∙ sym (used-at (entryFrom (now (s .args .words))) (s .args .count) (s .pre) list h)
+same-entry : (s : tie.Start Inv-loop μ-loop) (k list : ℕ) → k ≡ list → list < s .args .lists → entryFrom (now (s .args .words)) k ≡ entryAt (used s) list
+same-entry s k list e h = ap (entryFrom (now (s .args .words))) e ∙ sym (used-at (entryFrom (now (s .args .words))) (s .args .lists) (s .pre) list h)
 
 loop-holds : tie.Need-loop-holds Inv-loop μ-loop
 loop-holds c = rw (c .gathered-none .ensures) (refl, omega arith, omega arith, refl, omega arith)
@@ -55,7 +55,7 @@ module _ (c : tie.After-ends-well Inv-loop μ-loop) where
   abbrev start : tie.Start Inv-loop μ-loop
   start = at .before .before .before .before
 
-  below : at .loop .list < start .args .count
+  below : at .loop .list < start .args .lists
   below = omega arith
 
   this : entryFrom (now (start .args .words)) (walk .before .before .before .wide .result) ≡ entryAt (used start) (at .loop .list)
@@ -79,7 +79,7 @@ returns : tie.Need-returns Inv-loop μ-loop
 returns c =
     let w = c .before .before in
     rw (c .gather-fault .ensures)
-    (gather-halt xor _ _ _ _ (used (start w)) (at w .loop .list) _ (walked w) (told w) (inside w) (not-true (w .ends-well .result) (c .before .if1 .taken))
+    (gather-halt xor _ _ _ (used (start w)) (at w .loop .list) _ (walked w) (told w) (inside w) (not-true (w .ends-well .result) (c .before .if1 .taken))
     ∙ at w .loop .inv .0)
 
 gather-one-requires : tie.Need-gather-one-requires Inv-loop μ-loop
@@ -95,8 +95,8 @@ loop-again c =
     let w = c .before .before in
     let a = start w .args in (
       rw (c .gather-one .ensures .0)
-          (ap (λ (e : Entry). gatherAll xor (a .wanted) (a .count) (now (a .links)) (at w .loop .list + 1) (drop (at w .loop .list + 1) (used (start w))) (walk w .walk-live .last .1 .0) (gatherOne (a .wanted) (a .count) (at w .loop .list) e (walk w .walk-live .result .length) (at w .loop .g))) (same-entry (start w) (at w .loop .list) (at w .loop .list) refl (below w))
-          ∙ gather-next xor _ _ _ _ (used (start w)) (at w .loop .list) _ (walked w) (told w) (inside w) (not-false (w .ends-well .result) (c .before .if1 .left))
+          (ap (λ (e : Entry). gatherAll xor (a .lists) (now (a .links)) (at w .loop .list + 1) (drop (at w .loop .list + 1) (used (start w))) (walk w .walk-live .last .1 .0) (gatherOne (a .lists) (at w .loop .list) e (walk w .walk-live .result .length) (at w .loop .g))) (same-entry (start w) (at w .loop .list) (at w .loop .list) refl (below w))
+          ∙ gather-next xor _ _ _ (used (start w)) (at w .loop .list) _ (walked w) (told w) (inside w) (not-false (w .ends-well .result) (c .before .if1 .left))
           ∙ at w .loop .inv .0),
       omega (arith, live-unmet (walked w), at w .loop .inv .1, ap (λ g. g .live) (c .gather-one .ensures .0)),
       omega (arith, at w .loop .inv .2, c .gather-one .ensures .1),
@@ -108,7 +108,7 @@ returns-2 : tie.Need-returns-2 Inv-loop μ-loop
 returns-2 c =
     let s = c .before .before .before .before .before in
     let e : length (used s) ≤ c .before .loop .list = omega (arith, as-many s) in
-    gather-done xor _ _ _ _ (used s) (c .before .loop .list) _ e ∙ c .before .loop .inv .0
+    gather-done xor _ _ _ (used s) (c .before .loop .list) _ e ∙ c .before .loop .inv .0
 
 pub gather-spec : {M : Type 1} → statement M
 gather-spec =

@@ -9,7 +9,7 @@ use Rattle.pools.proofs.words.words_of.Statement.{statement}
 use Rattle.pools.proofs.words.words_of.Tie as tie
 
 abbrev Inv-loop : tie.InvT-loop
-Inv-loop entries free words₀ list₀ words list = Putting words₀ entries free words list × (length words₀ ≡ 34) × (length entries ≡ 8) × (list ≤ 8)
+Inv-loop entries free words₀ list₀ words list = Putting words₀ entries free words list × (length words₀ ≡ 43) × (length entries ≡ 8) × (list ≤ 8)
 
 abbrev μ-loop : tie.MeasureT-loop
 μ-loop entries free words₀ list₀ words list = 8 - list
@@ -59,6 +59,10 @@ words-of-spec =
     (λ c. search needs)
     (λ c. search needs)
     (λ c. search needs)
+    (λ c. search needs)
+    (λ c. search needs)
+    (λ c. search needs)
     loop-again
+    (λ c. search needs)
     (λ c. search needs)
     returns)

@@ -19,8 +19,8 @@ module _ (c : tie.After-list-refusal) where
   entries : length (start .args .t3 .entries) ≡ 8
   entries = sym (length-map (start .args .t3 .entries) _) ∙ start .good .1 .1 .0 .1 .1 .1 .0 .1 .0 .1
 
-  looked : c .before .before .told .result ≡ lookOf xor (start .args .list) (now (start .args .links)) (now (start .args .values)) (eight (start .args .t3))
-  looked = look-of-words (now (start .args .links)) (now (start .args .values)) (start .args .t3) (start .args .list) entries (c .before .before .before .before .before .before .before .words-of .ensures) (c .before .before .told .ensures ∙ c .before .before .before .look .ensures .0)
+  looked : c .before .before .told .result ≡ lookOf xor (now (start .args .links)) (now (start .args .values)) (eight (start .args .t3))
+  looked = look-of-words (now (start .args .links)) (now (start .args .values)) (start .args .t3) entries (c .before .before .before .before .before .before .before .words-of .ensures) (c .before .before .told .ensures ∙ c .before .before .before .look .ensures .0)
 
 returns : tie.Need-returns
 returns c =
@@ -30,14 +30,14 @@ returns c =
 
 element-copy-out-entry : tie.Need-element-copy-out-entry
 element-copy-out-entry c =
-    let past = c .before .before in
+    let past = c .before in
     let (e, z) = early-passed xor _ _ _ _ _ (looked (past .before .before)) _ (past .before .before .list-refusal .ensures) (past .if1 .left) in
     inside _ _ _ _ _ e z (c .wide .ensures .0)
 
 returns-2 : tie.Need-returns-2
 returns-2 c =
     let gone = c .before .before .before .before .before in
-    let past = gone .before .before .before .before .before .before .before in
+    let past = gone .before .before .before .before .before .before in
     let (e, z) = early-passed xor _ _ _ _ _ (looked (past .before .before)) _ (past .before .before .list-refusal .ensures) (past .if1 .left) in
     clear-put _ _ _ _ _ e z (gone .before .before .before .before .before .wide .ensures .0) (c .with-list .ensures) (gone .clear .ensures)
 

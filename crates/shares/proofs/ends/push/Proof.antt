@@ -19,8 +19,8 @@ module _ (c : tie.After-list-refusal) where
   entries : length (start .args .t4 .entries) ≡ 8
   entries = sym (length-map (start .args .t4 .entries) _) ∙ start .good .1 .1 .1 .0 .1 .1 .1 .0 .1 .0 .1
 
-  looked : c .before .before .told .result ≡ lookOf xor (start .args .list) (now (start .args .links)) (now (start .args .values)) (eight (start .args .t4))
-  looked = look-of-words (now (start .args .links)) (now (start .args .values)) (start .args .t4) (start .args .list) entries (c .before .before .before .before .before .before .before .words-of .ensures) (c .before .before .told .ensures ∙ c .before .before .before .look .ensures .0)
+  looked : c .before .before .told .result ≡ lookOf xor (now (start .args .links)) (now (start .args .values)) (eight (start .args .t4))
+  looked = look-of-words (now (start .args .links)) (now (start .args .values)) (start .args .t4) entries (c .before .before .before .before .before .before .before .words-of .ensures) (c .before .before .told .ensures ∙ c .before .before .before .look .ensures .0)
 
 returns : tie.Need-returns
 returns c =

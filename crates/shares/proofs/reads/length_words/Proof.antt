@@ -1,15 +1,15 @@
 -- `shares::reads::length_words`: what the check and `list_refusal` promise, by the test of their number.
-use mathlib.Core.Path.{_≡_, _∙_}
+use mathlib.Core.Path.{_≡_, ap, _∙_}
 use mathlib.Core.Bool.{cond, _&&_}
-use native.Mathlib.Omega.{arith}
 use lib.Dec.{leb, eqb}
 use denote.Ref.{now}
 use borrow.Author.Needs.{needs}
+use Rattle.books.specs.declared.Entry.{Entry}
 use Rattle.books.specs.Words.{bookFrom}
 use Rattle.books.specs.Place.{numbered}
 use Rattle.engines.proofs.Looking.{early-stopped, early-passed}
 use Rattle.xor.specs.Engine.{xor}
-use Rattle.shares.proofs.Reached.{early-in-words, length-early, length-went, short}
+use Rattle.shares.proofs.Reached.{early-in-words, length-early, length-went}
 use Rattle.shares.proofs.reads.length_words.Statement.{statement}
 use Rattle.shares.proofs.reads.length_words.Tie as tie
 
@@ -24,19 +24,12 @@ returns c =
     let e = early-stopped xor _ _ _ _ _ (at .before .before .before .told .ensures ∙ at .before .before .before .before .look .ensures .0) _ (told at) (c .if1 .taken) in
     length-early _ _ _ _ _ e (c .if1 .taken)
 
-cast-many : tie.Need-cast-many
-cast-many c =
-    let past = c .before .before in
-    let at = past .before .before in
-    let (e, z) = early-passed xor _ _ _ _ _ (at .before .before .before .told .ensures ∙ at .before .before .before .before .look .ensures .0) _ (told at) (past .if1 .left) in
-    omega (arith, short _ _ _ _ _ e z)
-
 returns-2 : tie.Need-returns-2
 returns-2 c =
-    let past = c .before .before in
+    let past = c .before in
     let at = past .before .before in
     let (e, z) = early-passed xor _ _ _ _ _ (at .before .before .before .told .ensures ∙ at .before .before .before .before .look .ensures .0) _ (told at) (past .if1 .left) in
-    length-went _ _ _ _ _ e z
+    length-went _ _ _ _ _ e z (ap (λ (x : Entry). x .length) (c .entry-of .ensures))
 
 pub length-words-spec : {M : Type 1} → statement M
-length-words-spec = tie.close (tie.spec (λ c κs. search needs) (λ c κs. search needs) (λ c κs. search needs) (λ c κs. search needs) returns cast-many returns-2)
+length-words-spec = tie.close (tie.spec (λ c κs. search needs) (λ c κs. search needs) (λ c κs. search needs) (λ c κs. search needs) returns (λ c κs. search needs) returns-2)

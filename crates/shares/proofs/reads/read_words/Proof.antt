@@ -7,6 +7,7 @@ use lib.Dec.{leb, eqb}
 use denote.Ref.{now}
 use borrow.Author.Needs.{needs}
 use Rattle.books.specs.declared.Entry.{Entry}
+use Rattle.books.specs.Book.{entryAt}
 use Rattle.shapes.specs.Ends.{nearOf}
 use Rattle.books.specs.Words.{bookFrom}
 use Rattle.books.specs.Place.{numbered}
@@ -28,47 +29,55 @@ returns c =
     let e = early-stopped xor _ _ _ _ _ (at .before .before .before .told .ensures ∙ at .before .before .before .before .look .ensures .0) _ (told at) (past .if1 .taken) in
     read-early _ _ _ _ _ e (past .if1 .taken) _ _ _ (c .refused .ensures)
 
+-- how many values there are to read: the stored length
+module _ (c : tie.After-read-number) where
+  abbrev past : tie.Else1
+  past = c .before .before .before
+
+  abbrev at : tie.After-list-refusal
+  at = past .before .before
+
+  abbrev start : tie.Start
+  start = at .before .before .before .before .before .before .before .before
+
+  many : c .before .wide .result ≡ entryAt (bookFrom (now (start .args .words)) .entries) (start .args .list) .length
+  many = c .before .wide .ensures .0 ∙ ap (λ (x : Entry). x .length) (c .before .before .entry-of .ensures)
+
 returns-2 : tie.Need-returns-2
 returns-2 c =
     let asked = c .before .before in
-    let past = asked .before .before in
-    let at = past .before .before in
-    let (e, z) = early-passed xor _ _ _ _ _ (at .before .before .before .told .ensures ∙ at .before .before .before .before .look .ensures .0) _ (told at) (past .if1 .left) in
-    read-full _ _ _ _ _ e z _ _ _ _ (asked .read-number .ensures) (c .before .if2 .taken) (c .refused2 .ensures)
+    let (e, z) = early-passed xor _ _ _ _ _ (at asked .before .before .before .told .ensures ∙ at asked .before .before .before .before .look .ensures .0) _ (told (at asked)) (past asked .if1 .left) in
+    read-full _ _ _ _ _ e z _ _ _ (many asked) _ (asked .read-number .ensures) (c .before .if2 .taken) (c .refused2 .ensures)
 
 -- what the read counts fits the answer
 counted : (c : tie.After-slice-known2) → c .before .before .read .result < 65536
 counted c =
     let near = c .before .before .before .before in
-    let asked = near .before .before .before in
-    let past = asked .before .before in
-    let at = past .before .before in
-    let a = at .before .before .before .before .before .before .before .before .args in
-    let (e, z) = early-passed xor _ _ _ _ _ (at .before .before .before .told .ensures ∙ at .before .before .before .before .look .ensures .0) _ (told at) (past .if1 .left) in
-    read-count-fits _ _ _ _ _ e z (a .end) (now (a .buffer)) (a .at) _
+    let asked = near .before .before in
+    let a = start asked .args in
+    let (e, z) = early-passed xor _ _ _ _ _ (at asked .before .before .before .told .ensures ∙ at asked .before .before .before .before .look .ensures .0) _ (told (at asked)) (past asked .if1 .left) in
+    read-count-fits _ _ _ _ _ e z (a .end) (now (a .buffer)) (a .at) (many asked) _
     (asked .read-number .ensures)
-    (near .before .before .if2 .left)
+    (near .before .if2 .left)
     (a .list)
     _
     refl
-    (near .near-of .ensures ∙ ap (λ (x : Entry). nearOf (a .end) x) (near .before .entry-of .ensures))
+    (near .near-of .ensures ∙ ap (λ (x : Entry). nearOf (a .end) x) (asked .before .before .entry-of .ensures))
     (c .before .before .read .ensures .0)
 
 returns-3 : tie.Need-returns-3
 returns-3 c =
     let near = c .before .before .before .before in
-    let asked = near .before .before .before in
-    let past = asked .before .before in
-    let at = past .before .before in
-    let a = at .before .before .before .before .before .before .before .before .args in
-    let (e, z) = early-passed xor _ _ _ _ _ (at .before .before .before .told .ensures ∙ at .before .before .before .before .look .ensures .0) _ (told at) (past .if1 .left) in
-    read-went _ _ _ _ _ e z _ _ _ _
+    let asked = near .before .before in
+    let a = start asked .args in
+    let (e, z) = early-passed xor _ _ _ _ _ (at asked .before .before .before .told .ensures ∙ at asked .before .before .before .before .look .ensures .0) _ (told (at asked)) (past asked .if1 .left) in
+    read-went _ _ _ _ _ e z _ _ _ (many asked) _
     (asked .read-number .ensures)
-    (near .before .before .if2 .left)
+    (near .before .if2 .left)
     (a .list)
     _
     refl
-    (near .near-of .ensures ∙ ap (λ (x : Entry). nearOf (a .end) x) (near .before .entry-of .ensures))
+    (near .near-of .ensures ∙ ap (λ (x : Entry). nearOf (a .end) x) (asked .before .before .entry-of .ensures))
     (c .before .before .read .ensures)
 
 pub read-words-spec : {M : Type 1} → statement M
@@ -83,8 +92,9 @@ read-words-spec =
     returns
     (λ c κs. search needs)
     (λ c κs. search needs)
-    returns-2
     (λ c κs. search needs)
+    (λ c κs. search needs)
+    returns-2
     (λ c κs. search needs)
     (λ c κs. search needs)
     (λ c. omega (arith, counted c))

@@ -2,7 +2,7 @@
 use mathlib.Core.Path.{_≡_, sym, _∙_}
 use mathlib.Core.Bool.{true, false, _&&_}
 use mathlib.Core.List.{List}
-use Prim.Native.Nat.{ℕ}
+use Prim.Native.Nat.{ℕ, _-_}
 use native.Mathlib.Omega.{arith}
 use lib.Dec.{eqb}
 use lib.ListN.{length}
@@ -34,11 +34,11 @@ module _ (links values : List ℕ) (lists : ℕ) (shares limits : List ℕ) wher
     unfolding sizesFit
     fit = fits-exactly xor links values .0 e
 
-    unruly : keepsRules (length links) (freshBookOf mostLists lists shares limits) ≡ false → laidOut {E = xor} 2 links values ≡ layOutOf xor mostLists links values lists shares limits
+    unruly : keepsRules (length links) (freshBookOf (length links - 1) mostLists lists shares limits) ≡ false → laidOut {E = xor} 2 links values ≡ layOutOf xor mostLists links values lists shares limits
     unfolding setupCall sizesFit decided
     unruly k = rw (e, k)
 
-    laid : keepsRules (length links) (freshBookOf mostLists lists shares limits) ≡ true → {l v : List ℕ} → l ≡ tabulate (length links) (freshLink (length links)) → v ≡ tabulate (length values) freshValue
+    laid : keepsRules (length links) (freshBookOf (length links - 1) mostLists lists shares limits) ≡ true → {l v : List ℕ} → l ≡ tabulate (length links) (freshLink (length links)) → v ≡ tabulate (length values) freshValue
         → laidOut {E = xor} 0 l v ≡ layOutOf xor mostLists links values lists shares limits
     unfolding setupCall sizesFit decided
     laid k p q = rw (p, q, e, k)

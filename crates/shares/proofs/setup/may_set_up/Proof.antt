@@ -2,7 +2,7 @@
 use mathlib.Core.Path.{_≡_}
 use mathlib.Core.Bool.{false, _&&_}
 use mathlib.Core.List.{List}
-use Prim.Native.Nat.{ℕ, _≤_, _<_}
+use Prim.Native.Nat.{ℕ, _-_, _≤_, _<_}
 use native.Mathlib.Omega.{arith}
 use lib.ListN.{length, take, drop}
 use denote.Ref.{now}
@@ -18,17 +18,17 @@ use Rattle.shares.proofs.setup.may_set_up.Statement.{statement}
 use Rattle.shares.proofs.setup.may_set_up.Tie as tie
 
 module _ (size lists : ℕ) (shares limits : List ℕ) where
-  none : lists ≡ 0 → false ≡ keepsRules size (freshBookOf mostLists lists shares limits)
+  none : lists ≡ 0 → false ≡ keepsRules size (freshBookOf (size - 1) mostLists lists shares limits)
   unfolding keepsRules
   none e = rw e
 
-  many : 8 < lists → false ≡ keepsRules size (freshBookOf mostLists lists shares limits)
+  many : 8 < lists → false ≡ keepsRules size (freshBookOf (size - 1) mostLists lists shares limits)
   unfolding keepsRules
   many h = rw (le-leb 1 lists (omega (arith, h)), lt-leb lists 8 h)
 
   -- from 1 to 8 lists the loops decide
   decide : 1 ≤ lists → lists ≤ 8
-      → keepsRules size (freshBookOf mostLists lists shares limits) ≡ gather size (take lists (tabulate mostLists (freshEntry shares limits))) 0 && allZero (drop lists (tabulate mostLists (freshEntry shares limits)))
+      → keepsRules size (freshBookOf (size - 1) mostLists lists shares limits) ≡ gather size (take lists (tabulate mostLists (freshEntry shares limits))) 0 && allZero (drop lists (tabulate mostLists (freshEntry shares limits)))
   unfolding keepsRules
   decide h g = rw (le-leb 1 lists h, le-leb lists 8 g, le-leb lists (length (tabulate 8 (freshEntry shares limits))) (omega (arith, g, tabulate-length 8 (freshEntry shares limits))))
 

@@ -1,6 +1,6 @@
 -- `shares::setup::rest_zero`: at each turn the shares and limits from k on are all zero exactly where those from `from` on are.
-use mathlib.Core.Path.{_≡_, sym, ap, _∙_}
-use mathlib.Core.Bool.{Bool, false, _&&_}
+use mathlib.Core.Path.{_≡_, refl, sym, ap, _∙_}
+use mathlib.Core.Bool.{Bool, true, false, _&&_}
 use mathlib.Core.List.{List}
 use mathlib.Core.Logic.{_≢_}
 use Prim.Native.Nat.{ℕ, _+_, _-_, _≤_, _<_}
@@ -26,12 +26,18 @@ Inv-loop shares limits from k₀ k = (allZero (drop k (tabulate mostLists (fresh
 abbrev μ-loop : tie.MeasureT-loop
 μ-loop shares limits from k₀ k = 8 - k
 
+-- the length of a fresh list is 0
+last-zero : (a b : Bool) → a && (b && true) ≡ a && b
+last-zero true true = refl
+last-zero true false = refl
+last-zero false b = refl
+
 -- what the share and the limit at k add to what comes after them
 turn : (shares limits : List ℕ) (k : ℕ) → k < 8
     → allZero (drop k (tabulate mostLists (freshEntry shares limits))) ≡ eqb (bitOr (getD shares k 0) (getD limits k 0)) 0 && allZero (drop (k + 1) (tabulate mostLists (freshEntry shares limits)))
 unfolding isZero
 turn shares limits k h =
-    zero-adds (freshEntry shares limits) k h ∙ ap (λ (t : Bool). t && allZero (drop (k + 1) (tabulate mostLists (freshEntry shares limits)))) (sym (or-zero (getD shares k 0) (getD limits k 0)))
+    zero-adds (freshEntry shares limits) k h ∙ ap (λ (t : Bool). t && allZero (drop (k + 1) (tabulate mostLists (freshEntry shares limits)))) (last-zero (eqb (getD shares k 0) 0) (eqb (getD limits k 0) 0) ∙ sym (or-zero (getD shares k 0) (getD limits k 0)))
 
 some : (shares limits : List ℕ) (k : ℕ) → k < 8 → bitOr (getD shares k 0) (getD limits k 0) ≢ 0 → allZero (drop k (tabulate mostLists (freshEntry shares limits))) ≡ false
 some shares limits k h d = turn shares limits k h ∙ ap (λ (t : Bool). t && allZero (drop (k + 1) (tabulate mostLists (freshEntry shares limits)))) (ne-eqb _ 0 d)

@@ -1,7 +1,7 @@
--- `shares::core::push_at`: each end in turn.
+-- `shares::counted::push_at`: each end in turn.
 use borrow.Author.Needs.{needs}
-use Rattle.shares.proofs.core.push_at.Statement.{statement}
-use Rattle.shares.proofs.core.push_at.Tie as tie
+use Rattle.shares.proofs.counted.push_at.Statement.{statement}
+use Rattle.shares.proofs.counted.push_at.Tie as tie
 
 returns : tie.Need-returns
 returns c = simp (c .before .before .before .before .before .before .before .enum-told .given .1, c .before .before .before .before .push-front .ensures)
