@@ -21,5 +21,5 @@ pub past : (k n : ℕ) → Passed n k → k ≤ n
 past zero n r = omega arith
 past (suc k) n r = omega (arith, past k n (r .0), r .1)
 
-pub by-default : {n : ℕ} {before : List ℕ} {at r : ℕ} {after : List ℕ} → 15 < n → Written unknown before at r after → Written (textOf n) before at r after
+pub by-default : {n : ℕ} {before : List ℕ} {at r : ℕ} {after : List ℕ} → 16 < n → Written unknown before at r after → Written (textOf n) before at r after
 by-default {n} {before} {at} {r} {after} h W = subst (λ t. Written t before at r after) (sym (above-known n h)) W

@@ -40,7 +40,8 @@ pub fn write(out: &mut [u8], at: usize, number: u16) -> usize
             at,
             b"a list is over its limit, or the shares are not covered",
         ),
-        16..=65535 => put(out, at, b"this version does not know the number"),
+        16 => put(out, at, b"a stored count is wrong"),
+        17..=65535 => put(out, at, b"this version does not know the number"),
     }
 }
 

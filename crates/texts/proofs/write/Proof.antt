@@ -1,4 +1,4 @@
--- `texts::write`: each arm puts the text of its number, and the range the text of every number above 15.
+-- `texts::write`: each arm puts the text of its number, and the range the text of every number above 16.
 use borrow.Author.Needs.{needs}
 use Rattle.wording.specs.Texts.{textOf}
 use Rattle.texts.proofs.Choice.{chosen, past, by-default}
@@ -70,12 +70,18 @@ unfolding textOf
 returns-16 c = chosen 15 (c .before .before .before .before .before .match .keys16) (c .before .before .put16 .ensures)
 
 returns-17 : tie.Need-returns-17
-returns-17 c = by-default (past 16 _ (c .before .before .before .before .before .match .rest)) (c .before .before .put17 .ensures)
+unfolding textOf
+returns-17 c = chosen 16 (c .before .before .before .before .before .match .keys17) (c .before .before .put17 .ensures)
+
+returns-18 : tie.Need-returns-18
+returns-18 c = by-default (past 17 _ (c .before .before .before .before .before .match .rest)) (c .before .before .put18 .ensures)
 
 pub write-spec : {M : Type 1} → statement M
 write-spec =
     tie.close
     (tie.spec
+    (λ c. search needs)
+    (λ c. search needs)
     (λ c. search needs)
     (λ c. search needs)
     (λ c. search needs)
@@ -143,4 +149,6 @@ write-spec =
     (λ c. search needs)
     returns-16
     (λ c. search needs)
-    returns-17)
+    returns-17
+    (λ c. search needs)
+    returns-18)
