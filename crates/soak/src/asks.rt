@@ -77,7 +77,7 @@ fn ask_entries(desk: &mut Desk, seed: u64, lists: u64, most: u64) {
     while list < lists {
         let share = dice(seed, list ^ 16, plus(left / 2, 1));
         let more = dice(seed, list ^ 24, plus(minus(most, share), 1));
-        set_four(desk, ASKED, list << 2, 0, 0, share, plus(share, more));
+        set_four(desk, ASKED, list << 3, 0, 0, share, plus(share, more));
         left = minus(left, share);
         list += 1;
     }
@@ -93,7 +93,7 @@ fn ask_setup(desk: &mut Desk, seed: u64, state: u64, size: u64) {
     if k < 17 {
         if state < 2 {
             let other = dice(seed, 8, plus(size, 2));
-            set(desk, ASKED, ((k >> 1) << 2) | SHARE | (k & 1), other);
+            set(desk, ASKED, ((k >> 1) << 3) | SHARE | (k & 1), other);
         }
     }
 }
@@ -111,8 +111,8 @@ pub(crate) fn ask(desk: &mut Desk, seed: u64, state: u64, size: u64) {
     let links = length(seed, 13, state, size);
     let values = length(seed, 14, state, size);
     set_four(desk, NOTES, KIND, kind, list, value, room);
-    set_four(desk, NOTES, AT, at, links, values, plus(size, 40));
+    set_four(desk, NOTES, AT, at, links, values, plus(size, 80));
     ask_setup(desk, seed, state, size);
     set(desk, FRESH, FREE, minus(links, 1));
-    fill(desk, BUFFER, 7000000, plus(size, 40));
+    fill(desk, BUFFER, 7000000, plus(size, 80));
 }

@@ -1,4 +1,4 @@
-// The program's own reading of a pool: which of the rules 9 to 15 is broken first, and where. The chains are written out in full, and only
+// The program's own reading of a pool: which of the rules 9 to 16 is broken first, and where. The chains are written out in full, and only
 // then looked at.
 use crate::desk::*;
 use crate::sound;
@@ -10,7 +10,7 @@ const NOWHERE: u64 = 65536;
 // one comes twice. Answers how many there are.
 fn write_chain(desk: &mut Desk, chain: u64, size: u64) -> u64 {
     let mut last: u64 = 0;
-    let mut slot = get(desk, BOOK, chain << 2);
+    let mut slot = get(desk, BOOK, chain << 3);
     let mut many: u64 = 0;
     while many < size {
         if slot == 0 {
@@ -75,7 +75,7 @@ fn is_wrong(desk: &Desk, chain: u64, place: u64, size: u64) -> bool {
 fn wrong_end(desk: &Desk, chain: u64) -> u64 {
     let many = get(desk, LENGTHS, chain);
     let last = get(desk, plus(WRITTEN, chain), minus(many, 1));
-    let tail = get(desk, BOOK, (chain << 2) | 1);
+    let tail = get(desk, BOOK, (chain << 3) | 1);
     let differs = tail ^ last;
     match chain {
         FREE => NOWHERE,
@@ -155,7 +155,7 @@ fn slot_rule(desk: &mut Desk, number: u64, size: u64) -> u64 {
 fn limit_rule(desk: &mut Desk) -> u64 {
     let mut list: u64 = 0;
     while list < 8 {
-        if get(desk, BOOK, (list << 2) | LIMIT) < get(desk, LENGTHS, list) {
+        if get(desk, BOOK, (list << 3) | LIMIT) < get(desk, LENGTHS, list) {
             return named(desk, 15, list, 0);
         }
         list += 1;
@@ -166,7 +166,22 @@ fn limit_rule(desk: &mut Desk) -> u64 {
     0
 }
 
-// 11 to 15, or 0.
+// 16 or 0: a stored count is not how many slots its chain has. An entry past L has length 0, and so has its chain.
+fn count_rule(desk: &mut Desk) -> u64 {
+    let mut chain: u64 = 0;
+    while chain < 9 {
+        if get(desk, BOOK, (chain << 3) | LENGTH) != get(desk, LENGTHS, chain) {
+            return match chain {
+                FREE => named(desk, 16, get(desk, BOOK, LISTS), 0),
+                _ => named(desk, 16, chain, 0),
+            };
+        }
+        chain += 1;
+    }
+    0
+}
+
+// 11 to 16, or 0.
 fn cells_rule(desk: &mut Desk, size: u64) -> u64 {
     write_chains(desk, size);
     mark_chains(desk, size);
@@ -182,7 +197,11 @@ fn cells_rule(desk: &mut Desk, size: u64) -> u64 {
     if wiped != 0 {
         return wiped;
     }
-    limit_rule(desk)
+    let limits = limit_rule(desk);
+    if limits != 0 {
+        return limits;
+    }
+    count_rule(desk)
 }
 
 // The number of the first broken rule, or 0; its list and position are noted. Rule 9 is what a setup is held to: no list has a slot yet.

@@ -83,6 +83,7 @@ fn entry(desk: &Desk, from: u64) -> Entry {
         tail: word(desk, BOOK, from | 1),
         share: word(desk, BOOK, from | SHARE),
         limit: word(desk, BOOK, from | LIMIT),
+        length: word(desk, BOOK, from | LENGTH),
     }
 }
 
@@ -91,16 +92,17 @@ fn book(desk: &Desk) -> Book {
         lists: word(desk, BOOK, LISTS),
         entries: [
             entry(desk, 0),
-            entry(desk, 4),
             entry(desk, 8),
-            entry(desk, 12),
             entry(desk, 16),
-            entry(desk, 20),
             entry(desk, 24),
-            entry(desk, 28),
+            entry(desk, 32),
+            entry(desk, 40),
+            entry(desk, 48),
+            entry(desk, 56),
         ],
         free: Free {
             head: word(desk, BOOK, FREE_HEAD),
+            count: word(desk, BOOK, FREE_COUNT),
         },
     }
 }
@@ -132,23 +134,18 @@ fn note_answer(desk: &mut Desk, answer: Popped) {
         set_four(
             desk,
             GOT,
-            long(k) << 2,
+            long(k) << 3,
             wide(one.head),
             wide(one.tail),
             wide(one.share),
             wide(one.limit),
         );
+        set(desk, GOT, (long(k) << 3) | LENGTH, wide(one.length));
         k += 1;
     }
-    set_four(
-        desk,
-        GOT,
-        FREE_HEAD,
-        wide(free.head),
-        0,
-        wide(book.lists),
-        0,
-    );
+    set(desk, GOT, FREE_HEAD, wide(free.head));
+    set(desk, GOT, LISTS, wide(book.lists));
+    set(desk, GOT, FREE_COUNT, wide(free.count));
     set_four(
         desk,
         GOT,
@@ -163,13 +160,13 @@ fn note_answer(desk: &mut Desk, answer: Popped) {
 fn eight(desk: &Desk, field: u64) -> [u16; 8] {
     [
         word(desk, ASKED, field),
-        word(desk, ASKED, field | 4),
         word(desk, ASKED, field | 8),
-        word(desk, ASKED, field | 12),
         word(desk, ASKED, field | 16),
-        word(desk, ASKED, field | 20),
         word(desk, ASKED, field | 24),
-        word(desk, ASKED, field | 28),
+        word(desk, ASKED, field | 32),
+        word(desk, ASKED, field | 40),
+        word(desk, ASKED, field | 48),
+        word(desk, ASKED, field | 56),
     ]
 }
 

@@ -28,11 +28,19 @@ fn bits_of(row: u64) -> u64 {
     }
 }
 
-// A place of a row of the pool or of the book, which has 34 words before the number of lists, and none after.
+// A word of the book: the five of an entry, the free head, the free count or how many lists there are.
+fn word(seed: u64) -> u64 {
+    let word = dice(seed, 23, 43);
+    match word {
+        41 => FREE_COUNT,
+        _ => (word / 5 << 3) | (word % 5),
+    }
+}
+
+// A place of a row of the pool or of the book.
 fn place(seed: u64, row: u64, size: u64) -> u64 {
-    let word = dice(seed, 23, 34);
     match row {
-        BOOK => plus(word, word / 33),
+        BOOK => word(seed),
         _ => dice(seed, 24, size),
     }
 }
@@ -44,12 +52,12 @@ fn change_cell(desk: &mut Desk, seed: u64, row: u64, size: u64) {
     set(desk, row, place, new);
 }
 
-// A list's limit becomes smaller than its length, with share 0, or its share as large as its limit. Rule 15 is the last one, and other
+// A list's limit becomes smaller than its length, with share 0, or its share as large as its limit. Rule 15 is one of the last, and other
 // damage seldom breaks it alone.
 fn change_entry(desk: &mut Desk, seed: u64) {
     let list = dice(seed, 29, get(desk, BOOK, LISTS)) & 7;
-    let share = (list << 2) | SHARE;
-    let limit = (list << 2) | LIMIT;
+    let share = (list << 3) | SHARE;
+    let limit = (list << 3) | LIMIT;
     let die = dice(seed, 30, plus(get(desk, COUNTS, list), 1));
     match die {
         0 => set(desk, BOOK, share, get(desk, BOOK, limit)),
@@ -60,12 +68,34 @@ fn change_entry(desk: &mut Desk, seed: u64) {
     }
 }
 
-// A link, a value or a word of the book is changed, or a list's entry.
+// The length of a list that there is, or the free count.
+fn count(desk: &Desk, seed: u64) -> u64 {
+    let lists = get(desk, BOOK, LISTS);
+    let list = dice(seed, 31, plus(lists, 1));
+    if list < lists {
+        return ((list & 7) << 3) | LENGTH;
+    }
+    FREE_COUNT
+}
+
+// A stored count becomes another number. Rule 16 is the last one. By a length of 0 a list lacks its whole share: rule 15 must not go by it.
+fn change_count(desk: &mut Desk, seed: u64, size: u64) {
+    let count = count(desk, seed);
+    let die = dice(seed, 33, 4);
+    let new = match die {
+        0 => 0,
+        _ => other(seed, get(desk, BOOK, count), size, 65535),
+    };
+    set(desk, BOOK, count, new);
+}
+
+// A link, a value or a word of the book is changed, or a list's entry, or a stored count.
 fn change(desk: &mut Desk, seed: u64, size: u64) {
-    let row = plus(LINKS, dice(seed, 25, 5));
-    match row {
-        LINKS | VALUES | BOOK => change_cell(desk, seed, row, size),
-        _ => change_entry(desk, seed),
+    let way = dice(seed, 25, 7);
+    match way {
+        0 | 1 | 2 => change_cell(desk, seed, plus(LINKS, way), size),
+        3 | 4 => change_entry(desk, seed),
+        _ => change_count(desk, seed, size),
     }
 }
 

@@ -121,7 +121,7 @@ fn link_at(desk: &Desk, list: u64, place: u64) -> u64 {
     }
 }
 
-// The links of a list's slots, and its ends in the book. The free slots have a head alone.
+// The links of a list's slots, and its ends and its length in the book. The free slots have no tail there.
 fn draw_list(desk: &mut Desk, list: u64) {
     let many = get(desk, COUNTS, list);
     let head = slot_at(desk, list, 0);
@@ -133,8 +133,9 @@ fn draw_list(desk: &mut Desk, list: u64) {
         set(desk, LINKS, slot, link);
         k += 1;
     }
-    set(desk, BOOK, list << 2, head);
-    set(desk, BOOK, (list << 2) | 1, tail);
+    set(desk, BOOK, list << 3, head);
+    set(desk, BOOK, (list << 3) | 1, tail);
+    set(desk, BOOK, (list << 3) | LENGTH, many);
 }
 
 // The links and the book as the deque says that they must be, and the null slot.

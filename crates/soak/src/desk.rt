@@ -10,26 +10,31 @@ pub(crate) const COUNTS: u64 = 9;
 
 pub(crate) const FIRSTS: u64 = 10;
 
-// The pool and its book as they are or must be: three rows. A list's entry begins at word 4 * list of the book.
+// The pool and its book as they are or must be: three rows. A list's entry begins at word 8 * list of the book, and
+// what the book keeps of the free slots at word 64.
 pub(crate) const LINKS: u64 = 11;
 
 pub(crate) const VALUES: u64 = 12;
 
 pub(crate) const BOOK: u64 = 13;
 
-// In an entry: share and limit. After the entries: the free head, and how many lists there are. After the book: number, value, and the
-// list and the position that the number sets.
+// In an entry, behind its ends: share, limit and length. After the entries: the free head, how many lists there are, and how many slots
+// are free. After the book: number, value, and the list and the position that the number sets.
 pub(crate) const SHARE: u64 = 2;
 
 pub(crate) const LIMIT: u64 = 3;
 
-pub(crate) const FREE_HEAD: u64 = 32;
+pub(crate) const LENGTH: u64 = 4;
 
-pub(crate) const LISTS: u64 = 34;
+pub(crate) const FREE_HEAD: u64 = 64;
 
-pub(crate) const NUMBER: u64 = 36;
+pub(crate) const LISTS: u64 = 66;
 
-pub(crate) const VALUE: u64 = 37;
+pub(crate) const FREE_COUNT: u64 = 68;
+
+pub(crate) const NUMBER: u64 = 72;
+
+pub(crate) const VALUE: u64 = 73;
 
 // The pool of before the damage, and the pool whose soundness is tested: three rows each, as above.
 pub(crate) const SAVED: u64 = 14;
@@ -55,7 +60,7 @@ pub(crate) const ASKED: u64 = 26;
 
 pub(crate) const FRESH: u64 = 27;
 
-// How often each call gave each number: 16 places for each call, and 16 for all of them together.
+// How often each call gave each number: 32 places for each call, and 32 for all of them together.
 pub(crate) const TABLE: u64 = 28;
 
 pub(crate) const ALL: u64 = 10;

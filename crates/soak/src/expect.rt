@@ -7,10 +7,10 @@ use crate::sound;
 
 // 6 or 7.
 fn push_number(desk: &Desk, list: u64, many: u64) -> u64 {
-    if many == get(desk, BOOK, (list << 2) | LIMIT) {
+    if many == get(desk, BOOK, (list << 3) | LIMIT) {
         return 6;
     }
-    if get(desk, BOOK, (list << 2) | SHARE) <= many {
+    if get(desk, BOOK, (list << 3) | SHARE) <= many {
         if get(desk, COUNTS, FREE) <= sound::lacks(desk, BOOK, COUNTS) {
             return 7;
         }
@@ -61,7 +61,7 @@ fn setup_number(desk: &Desk, size: u64) -> u64 {
     2
 }
 
-// 9 to 15 by the program's reading of the pool, or 0. A damaged pool, and one of another size than it was set up for, must break a rule, and
+// 9 to 16 by the program's reading of the pool, or 0. A damaged pool, and one of another size than it was set up for, must break a rule, and
 // no other may: else 3, which no call gives.
 fn rule_number(desk: &mut Desk, size: u64) -> u64 {
     let rule = broken::first(desk, size);
@@ -78,7 +78,7 @@ fn rule_number(desk: &mut Desk, size: u64) -> u64 {
     }
 }
 
-// 9 to 15, and then 4 to 8.
+// 9 to 16, and then 4 to 8.
 fn ruled_number(desk: &mut Desk, kind: u64, size: u64) -> u64 {
     let rule = rule_number(desk, size);
     match rule {
@@ -90,7 +90,7 @@ fn ruled_number(desk: &mut Desk, kind: u64, size: u64) -> u64 {
     }
 }
 
-// The number that the call must give. The tests run in this order: 1, then of a setup 2, of the others 9 to 15 and
+// The number that the call must give. The tests run in this order: 1, then of a setup 2, of the others 9 to 16 and
 // 4 to 8.
 fn number(desk: &mut Desk, kind: u64) -> u64 {
     let size = get(desk, NOTES, LINKS_LENT);
@@ -144,8 +144,8 @@ pub(crate) fn judge(desk: &mut Desk) {
     let kind = get(desk, NOTES, KIND);
     let given = get(desk, GOT, NUMBER);
     expect(desk, kind);
-    add_to(desk, TABLE, (kind << 4) | given, 1);
-    add_to(desk, TABLE, (ALL << 4) | given, 1);
+    add_to(desk, TABLE, (kind << 5) | given, 1);
+    add_to(desk, TABLE, (ALL << 5) | given, 1);
     compare(desk, GOT, WANTED);
     compare(desk, GOT_LINKS, LINKS);
     compare(desk, GOT_VALUES, VALUES);

@@ -2,19 +2,19 @@
 use crate::desk::*;
 use libc::STDOUT_FILENO;
 
-// Which number each call can give, by documents 01 and 02: sixteen digits for each call, from number 0 to number 15, 1 where the call can
-// give it.
+// Which number each call can give, by documents 01 and 02: seventeen digits for each call, from number 0 to number 16, 1 where the call
+// can give it.
 const MAY_GIVE: [u64; 10] = [
-    1110000000000000,
-    1100000001111111,
-    1100100001111111,
-    1100101101111111,
-    1100101101111111,
-    1100110001111111,
-    1100110001111111,
-    1100100011111111,
-    1100100011111111,
-    1100100001111111,
+    11100000000000000,
+    11000000011111111,
+    11001000011111111,
+    11001011011111111,
+    11001011011111111,
+    11001100011111111,
+    11001100011111111,
+    11001000111111111,
+    11001000111111111,
+    11001000011111111,
 ];
 
 fn say(text: &[u8]) {
@@ -33,19 +33,19 @@ fn word(text: &[u8], n: u64) {
 
 // One more digit: 1 where the number is not 0.
 fn digit(digits: u64, n: u64) -> u64 {
-    let tens = digits % 1000000000000000 * 10;
+    let tens = digits % 10000000000000000 * 10;
     match n {
         0 => tens,
         _ => tens + 1,
     }
 }
 
-// How often a call gave each number, or all of them. Answers sixteen digits, 1 for each number that it gave.
+// How often a call gave each number, or all of them. Answers seventeen digits, 1 for each number that it gave.
 fn row(desk: &Desk, kind: u64) -> u64 {
     let mut gave: u64 = 0;
     let mut number: u64 = 0;
-    while number < 16 {
-        let times = get(desk, TABLE, (kind << 4) | number);
+    while number < 17 {
+        let times = get(desk, TABLE, (kind << 5) | number);
         word(b" ", times);
         gave = digit(gave, times);
         number += 1;
@@ -70,7 +70,7 @@ fn table(desk: &Desk) -> u64 {
 
 pub(crate) fn summary(desk: &Desk) {
     say(
-        b"how often each call gave the numbers 0 to 15: setup, check, length, push back, push front, ",
+        b"how often each call gave the numbers 0 to 16: setup, check, length, push back, push front, ",
     );
     say(b"pop back, pop front, read forward, read backward, clear, and all together\n");
     word(

@@ -32,7 +32,7 @@ pub(crate) fn before(list: u64, slot: u64) -> u64 {
 // Answers how many there are.
 fn guess_list(desk: &mut Desk, list: u64, size: u64) -> u64 {
     let mut last: u64 = 0;
-    let mut slot = get(desk, BOOK, list << 2);
+    let mut slot = get(desk, BOOK, list << 3);
     let mut many: u64 = 0;
     while many < size {
         if ends(desk, list, slot, size) {
@@ -63,12 +63,12 @@ fn guess(desk: &mut Desk, size: u64) -> u64 {
 
 // A list's entry: share ≤ limit ≤ N-1, and the list is no longer than its limit. An entry from L on: all 0.
 fn entry_fits(desk: &Desk, book: u64, counts: u64, list: u64, size: u64) -> bool {
-    let from = list << 2;
+    let from = list << 3;
     let share = get(desk, book, from | SHARE);
     let limit = get(desk, book, from | LIMIT);
-    let ends = get(desk, book, from) | get(desk, book, from | 1);
+    let others = get(desk, book, from) | get(desk, book, from | 1) | get(desk, book, from | LENGTH);
     if get(desk, book, LISTS) <= list {
-        return ends | share | limit == 0;
+        return others | share | limit == 0;
     }
     if limit < share {
         return false;
@@ -92,7 +92,7 @@ pub(crate) fn lacks(desk: &Desk, book: u64, counts: u64) -> u64 {
     let mut sum: u64 = 0;
     let mut list: u64 = 0;
     while list < 8 {
-        let share = get(desk, book, (list << 2) | SHARE);
+        let share = get(desk, book, (list << 3) | SHARE);
         sum = plus(sum, lack(share, get(desk, counts, list)));
         list += 1;
     }

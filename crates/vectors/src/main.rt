@@ -1,5 +1,5 @@
 // Document 01's pools to try and a pool for each broken rule, run through the compiled calls, with every cell shown. `stdout` beside src/
-// was read line by line beside document 01, and beside document 02 where a rule is broken.
+// was read line by line beside document 01, and beside document 02 for the counts and where a rule is broken.
 mod broken;
 mod calls;
 mod out;
@@ -30,6 +30,12 @@ const P8: [u8; 16] = *b"P8              ";
 
 const P9: [u8; 16] = *b"P9              ";
 
+const P9_COUNTS_3_AND_0: [u8; 16] = *b"P9, counts 3, 0 ";
+
+const P9_COUNTS_2_AND_1: [u8; 16] = *b"P9, counts 2, 1 ";
+
+const P9_COUNTS_65535: [u8; 16] = *b"P9, counts 65535";
+
 const P10: [u8; 16] = *b"P10             ";
 
 const ONE_SLOT: [u8; 16] = *b"1 slot          ";
@@ -47,38 +53,45 @@ const SHARES_3_AND_3: [u8; 16] = *b"shares 3 and 3  ";
 const LIMIT_0: [u8; 16] = *b"limit 0         ";
 
 // A book of one list with share 0.
-fn one_list(head: u16, tail: u16, limit: u16, free: u16) -> Book {
+fn one_list(entry: Entry, free: Free) -> Book {
     let none = Entry::zero();
-    let share = 0;
-    let entry = Entry {
-        head,
-        tail,
-        share,
-        limit,
-    };
     Book {
         lists: 1,
         entries: [entry, none, none, none, none, none, none, none],
-        free: Free { head: free },
+        free,
     }
 }
 
 // 01 gives the values of P8's slots 0, 2 and 5. The list's are 10, 20 and 30.
-fn p8_and_p9() {
+fn p8() {
     let mut links = [0u16, 7, 5, 1, 1, 0];
     let mut values = [0u64, 20, 0, 10, 30, 0];
+    let entry = Entry {
+        head: 3,
+        tail: 4,
+        share: 0,
+        limit: 5,
+        length: 3,
+    };
     out::title(P8);
-    steps::run(&mut links, &mut values, one_list(3, 4, 5, 2), 0, 0);
-    links = [0u16, 2, 0, 0, 0, 0];
-    values = [0u64; 6];
-    out::title(P9);
-    steps::run(
-        &mut links[0..4],
-        &mut values[0..4],
-        one_list(1, 1, 3, 0),
-        11,
-        16,
-    );
+    let book = one_list(entry, Free { head: 2, count: 2 });
+    steps::run(&mut links, &mut values, book, 0, 0);
+}
+
+// 01 says nothing of P9's counts, so it is tried with several. Its chain is broken whatever they are.
+fn p9(title: [u8; 16], length: u16, count: u16, from: usize) {
+    let mut links = [0u16, 2, 0, 0];
+    let mut values = [0u64; 4];
+    let entry = Entry {
+        head: 1,
+        tail: 1,
+        share: 0,
+        limit: 3,
+        length,
+    };
+    out::title(title);
+    let book = one_list(entry, Free { head: 0, count });
+    steps::run(&mut links, &mut values, book, from, 16);
 }
 
 // A pool of so many slots, of which every cell is 9 before, and on it the steps of `STEPS` from `from` up to `to`.
@@ -99,7 +112,7 @@ fn nines(title: [u8; 16], size: usize, from: usize, to: usize) {
 
 fn intro() {
     out::say(
-        b"A call has its list and its value or place behind it; a setup its lists, and its shares and limits.\nA book is how many lists it has and the free head, then head, tail, share and limit of each.\nA number that names a broken rule has the rule's list and position behind it.\n\n",
+        b"A call has its list and its value or place behind it; a setup its lists, and its shares and limits.\nA book is how many lists it has, the free head and the free count, then head, tail, share, limit and length of each.\nA number that names a broken rule has the rule's list and position behind it.\n\n",
     );
 }
 
@@ -114,7 +127,11 @@ fn main() {
     nines(P6, 6, 0, 9);
     nines(P7, 6, 0, 10);
     nines(P7_THEN_A_CLEAR, 6, 0, 11);
-    p8_and_p9();
+    p8();
+    p9(P9, 0, 0, 11);
+    p9(P9_COUNTS_3_AND_0, 3, 0, 16);
+    p9(P9_COUNTS_2_AND_1, 2, 1, 16);
+    p9(P9_COUNTS_65535, 65535, 65535, 16);
     nines(P10, 6, 16, 18);
     nines(ONE_SLOT, 1, 18, 19);
     nines(TWO_SLOTS, 2, 18, 19);

@@ -98,15 +98,16 @@ pub(crate) fn given(refusal: Refusal, value: u64) {
     number(value);
 }
 
-// How many lists there are, the free head, then head, tail, share and limit of each entry.
+// How many lists there are, the free head and the free count, then head, tail, share, limit and length of each entry.
 pub(crate) fn book(book: Book) {
     let words = pools::words::words_of(book);
     let mut k: usize = 1;
     say(b", book");
     number(wide(words[0]));
-    number(wide(words[33]));
-    while k < 33 {
-        if k % 4 == 1 {
+    number(wide(words[41]));
+    number(wide(words[42]));
+    while k < 41 {
+        if k % 5 == 1 {
             letter(b',');
         }
         number(wide(words[k]));
