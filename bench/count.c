@@ -35,8 +35,9 @@ static void fill(struct pool *pool, size_t n, size_t held, uint16_t lists)
     for (size_t slot = held + 1; slot < n; slot++)
         pool->links[slot] = (uint16_t)(slot + 1 < n ? slot + 1 : 0);
     pool->book.lists = lists;
-    pool->book.list[0] = (struct flailreeve_list){held > 0, (uint16_t)held, 0, limits[0]};
+    pool->book.list[0] = (struct flailreeve_list){held > 0, (uint16_t)held, 0, limits[0], (uint16_t)held};
     pool->book.free_head = (uint16_t)(held + 1 < n ? held + 1 : 0);
+    pool->book.free_count = (uint16_t)(n - 1 - held);
     must(flailreeve_check(pool->links, n, pool->values, n, &pool->book, &place));
 }
 

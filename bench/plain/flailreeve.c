@@ -1,6 +1,7 @@
-/* The ten calls in plain C, as a careful firmware engineer would write them, with the version and the texts: what the archive's cost is held against, and what
- * the faults of tests/c are planted in. The check is one pass over the pool and hands on what it found in registers; a call
- * stores to no cell twice, and clears nothing that it writes anyway. Where a pool is broken is worked out only when it is. */
+/* The ten calls in plain C, as a careful firmware engineer would write them, with the version and the texts: what the archive's cost
+ * is held against, and what the faults of tests/c are planted in. The check is one pass over the pool and hands on what it found in
+ * registers; the lengths it leaves in the book, where a call finds them. A call stores to no cell twice, and clears nothing that it
+ * writes anyway. Where a pool is broken is worked out only when it is. */
 #include "flailreeve.h"
 
 #include <stdbool.h>
@@ -8,15 +9,11 @@
 
 /* What a look at the pool found. It is two machine words, so that it is handed back in registers. */
 struct found {
-    size_t number;   /* 0, or why the call is refused: 1, 9 to 15 or 4 */
-    uint32_t length; /* of the list that was asked for */
-    uint32_t spare;  /* free slots beyond those that lists still lack of their shares */
+    size_t number; /* 0, or why the call is refused: 1, 9 to 16 or 4 */
+    size_t spare;  /* free slots beyond those that lists still lack of their shares */
 };
 
 enum end { FRONT, BACK };
-
-/* What the book has from entry L on. */
-static const struct flailreeve_list no_list;
 
 static bool sizes_fit(size_t links_len, size_t values_len)
 {
@@ -26,14 +23,14 @@ static bool sizes_fit(size_t links_len, size_t values_len)
 static struct found refused(size_t number, size_t list, size_t position, struct flailreeve_place *place)
 {
     *place = (struct flailreeve_place){(uint16_t)list, (uint16_t)position};
-    return (struct found){number, 0, 0};
+    return (struct found){number, 0};
 }
 
 /* The rules of the book, for a book as it stands: L, shares and limits; from L on every word is 0. */
 static inline bool book_keeps_rules(const struct flailreeve_book *book, size_t n)
 {
-    size_t sum = 0;
-    size_t k;
+    uint64_t four; /* of an entry's five words the first four, looked at as one */
+    size_t k, sum = 0;
 
     if (book->lists < 1 || book->lists > FLAILREEVE_BOOK_LISTS)
         return false;
@@ -42,9 +39,11 @@ static inline bool book_keeps_rules(const struct flailreeve_book *book, size_t n
             return false;
         sum += book->list[k].share;
     }
-    for (; k < FLAILREEVE_BOOK_LISTS; k++)
-        if (memcmp(&book->list[k], &no_list, sizeof no_list) != 0)
+    for (; k < FLAILREEVE_BOOK_LISTS; k++) {
+        memcpy(&four, &book->list[k], sizeof four);
+        if ((four | book->list[k].length) != 0)
             return false;
+    }
     return sum < n;
 }
 
@@ -54,8 +53,7 @@ static struct found free_refused(const uint16_t *links, const uint64_t *values, 
                                  struct flailreeve_place *place)
 {
     enum { FREE = 2 };
-    size_t position = 0;
-    size_t slot;
+    size_t slot, position = 0;
 
     for (slot = free_head; slot < n && !met[slot]; slot = links[slot]) {
         met[slot] = FREE;
@@ -74,17 +72,18 @@ static struct found free_refused(const uint16_t *links, const uint64_t *values, 
 }
 
 /* Checks the pool in one pass over the book, the lists and the free slots, and then the list number. The walks stand here and not
- * in functions of their own: gcc reaches a local array in fewer instructions than one that is handed on by a pointer. The place
- * is written once, whatever is found. */
+ * in functions of their own: gcc reaches a local array in fewer instructions than one that is handed on by a pointer. Slots are
+ * counted in 32 bits: with 64, gcc takes slot 0's value for a 0 that it has at hand and keeps it in the frame. The place is written
+ * once, whatever is found. */
 static struct found look(const uint16_t *links, size_t links_len, const uint64_t *values, size_t values_len,
                          const struct flailreeve_book *book, uint16_t wanted, struct flailreeve_place *place)
 {
     uint8_t met[FLAILREEVE_LARGEST_POOL]; /* for each slot 1 where a list has it */
-    uint16_t lengths[FLAILREEVE_BOOK_LISTS];
     size_t n = links_len;
-    size_t left = n - 1; /* slots that no list has: so many must be free */
-    size_t taken = 0;    /* slots that the lists have, or still lack of their shares */
-    size_t over;         /* the lowest list that is over its limit, else L */
+    uint32_t left = (uint32_t)n - 1; /* slots that no list has: so many must be free */
+    uint32_t taken = 0;              /* slots that the lists have, or still lack of their shares */
+    size_t over;                     /* the lowest list that is over its limit, else L */
+    size_t miscounted;               /* the lowest list whose length in the book is wrong, else L */
     size_t k, slot;
 
     if (!sizes_fit(links_len, values_len))
@@ -95,10 +94,10 @@ static struct found look(const uint16_t *links, size_t links_len, const uint64_t
         return refused(FLAILREEVE_BROKEN_NULL_SLOT, 0, 0, place);
     memset(met, 0, n);
     met[0] = 1; /* so that a walk stops at the chain's end as it does at a slot that it met before */
-    over = book->lists;
+    over = miscounted = book->lists;
     for (k = 0; k < book->lists; k++) {
         const struct flailreeve_list *list = &book->list[k];
-        size_t length = 0;
+        uint32_t length = 0;
         size_t last = 0;
 
         slot = list->head;
@@ -114,13 +113,14 @@ static struct found look(const uint16_t *links, size_t links_len, const uint64_t
             return refused(FLAILREEVE_BROKEN_LIST, k, length, place);
         if (length > list->limit && over == book->lists)
             over = k;
+        if (length != list->length && miscounted == book->lists)
+            miscounted = k;
         left -= length;
         taken += length > list->share ? length : list->share;
-        lengths[k] = (uint16_t)length;
     }
     /* Free slots need no mark: if the walk came to one twice it would go round, and not be at 0 after the last. */
     slot = book->free_head;
-    for (; left > 0; left--) {
+    for (uint32_t i = left; i > 0; i--) {
         if (slot >= n || met[slot] || values[slot] != 0)
             return free_refused(links, values, n, book->free_head, met, place);
         slot = links[slot];
@@ -130,17 +130,18 @@ static struct found look(const uint16_t *links, size_t links_len, const uint64_t
     /* More than N-1 are taken where the free slots do not cover what is lacked. */
     if (over != book->lists || taken >= n)
         return refused(FLAILREEVE_OVER_LIMIT, over, 0, place);
+    if (miscounted != book->lists || left != book->free_count)
+        return refused(FLAILREEVE_WRONG_COUNT, miscounted, 0, place);
     if (wanted >= book->lists)
         return refused(FLAILREEVE_REFUSED_NO_LIST, 0, 0, place);
     *place = (struct flailreeve_place){0, 0};
-    return (struct found){FLAILREEVE_DONE, lengths[wanted], (uint32_t)(n - 1 - taken)};
+    return (struct found){FLAILREEVE_DONE, n - 1 - taken};
 }
 
 /* The rules of the book, for what setup is handed: L, shares and limits; from L on all are 0. */
 static bool keeps_rules(uint16_t lists, const uint16_t shares[8], const uint16_t limits[8], size_t n)
 {
-    size_t sum = 0;
-    size_t k;
+    size_t k, sum = 0;
 
     if (lists < 1 || lists > FLAILREEVE_BOOK_LISTS)
         return false;
@@ -166,10 +167,11 @@ uint16_t flailreeve_setup(uint16_t *links, size_t links_len, uint64_t *values, s
         return FLAILREEVE_REFUSED_RULES;
     book->lists = lists;
     for (k = 0; k < lists; k++)
-        book->list[k] = (struct flailreeve_list){0, 0, shares[k], limits[k]};
+        book->list[k] = (struct flailreeve_list){0, 0, shares[k], limits[k], 0};
     for (; k < FLAILREEVE_BOOK_LISTS; k++)
-        book->list[k] = no_list;
+        book->list[k] = (struct flailreeve_list){0};
     book->free_head = 1;
+    book->free_count = (uint16_t)(links_len - 1);
     links[0] = 0;
     for (size_t slot = 1; slot < links_len - 1; slot++)
         links[slot] = (uint16_t)(slot + 1);
@@ -191,7 +193,7 @@ uint16_t flailreeve_length(const uint16_t *links, size_t links_len, const uint64
 {
     struct found found = look(links, links_len, values, values_len, book, list, place);
 
-    *length = found.number == FLAILREEVE_DONE ? (uint16_t)found.length : 0;
+    *length = found.number == FLAILREEVE_DONE ? book->list[list].length : 0;
     return (uint16_t)found.number;
 }
 
@@ -202,21 +204,22 @@ static inline uint16_t push(uint16_t *links, size_t links_len, uint64_t *values,
 {
     struct found found = look(links, links_len, values, values_len, book, list, place);
     struct flailreeve_list *to;
-    uint16_t *near_end, *far_end;
-    uint16_t slot, neighbour;
+    uint16_t *near_end, *far_end, slot, neighbour;
 
     if (found.number != FLAILREEVE_DONE)
         return (uint16_t)found.number;
     to = &book->list[list];
-    if (found.length == to->limit)
+    if (to->length == to->limit)
         return FLAILREEVE_REFUSED_LIMIT;
-    if (found.length >= to->share && found.spare == 0)
+    if (to->length >= to->share && found.spare == 0)
         return FLAILREEVE_REFUSED_KEPT;
     near_end = end == FRONT ? &to->head : &to->tail;
     far_end = end == FRONT ? &to->tail : &to->head;
     slot = book->free_head;
     neighbour = *near_end;
     book->free_head = links[slot];
+    book->free_count--;
+    to->length++;
     values[slot] = value;
     links[slot] = neighbour;
     *near_end = slot;
@@ -246,10 +249,9 @@ static inline uint16_t pop(uint16_t *links, size_t links_len, uint64_t *values, 
 {
     struct found found = look(links, links_len, values, values_len, book, list, place);
     struct flailreeve_list *from;
-    uint16_t *near_end, *far_end;
-    uint16_t slot, neighbour;
+    uint16_t *near_end, *far_end, slot, neighbour;
 
-    if (found.number == FLAILREEVE_DONE && found.length == 0)
+    if (found.number == FLAILREEVE_DONE && book->list[list].length == 0)
         found.number = FLAILREEVE_REFUSED_EMPTY;
     if (found.number != FLAILREEVE_DONE) {
         *value = 0;
@@ -269,6 +271,8 @@ static inline uint16_t pop(uint16_t *links, size_t links_len, uint64_t *values, 
     values[slot] = 0;
     links[slot] = book->free_head;
     book->free_head = slot;
+    book->free_count++;
+    from->length--;
     return FLAILREEVE_DONE;
 }
 
@@ -290,24 +294,24 @@ static inline uint16_t read(const uint16_t *links, size_t links_len, const uint6
                             uint16_t *count, enum end from, struct flailreeve_place *place)
 {
     struct found found = look(links, links_len, values, values_len, book, list, place);
-    size_t last = 0;
-    size_t slot;
+    size_t length, slot, last = 0;
 
-    if (found.number == FLAILREEVE_DONE && (at > out_len || out_len - at < found.length))
+    if (found.number == FLAILREEVE_DONE && (at > out_len || out_len - at < book->list[list].length))
         found.number = FLAILREEVE_REFUSED_BUFFER;
     if (found.number != FLAILREEVE_DONE) {
         *count = 0;
         return (uint16_t)found.number;
     }
+    length = book->list[list].length;
     slot = from == FRONT ? book->list[list].head : book->list[list].tail;
-    for (size_t i = 0; i < found.length; i++) {
+    for (size_t i = 0; i < length; i++) {
         size_t next = links[slot] ^ last;
 
         out[at + i] = values[slot];
         last = slot;
         slot = next;
     }
-    *count = (uint16_t)found.length;
+    *count = (uint16_t)length;
     return FLAILREEVE_DONE;
 }
 
@@ -334,7 +338,7 @@ uint16_t flailreeve_clear(uint16_t *links, size_t links_len, uint64_t *values, s
     struct flailreeve_list *from;
     size_t slot, first, last = 0;
 
-    if (found.number != FLAILREEVE_DONE || found.length == 0)
+    if (found.number != FLAILREEVE_DONE || book->list[list].length == 0)
         return (uint16_t)found.number;
     from = &book->list[list];
     first = from->head;
@@ -350,7 +354,8 @@ uint16_t flailreeve_clear(uint16_t *links, size_t links_len, uint64_t *values, s
     links[first] = book->free_head;
     values[first] = 0;
     book->free_head = from->tail;
-    from->head = from->tail = 0;
+    book->free_count += from->length;
+    from->head = from->tail = from->length = 0;
     return FLAILREEVE_DONE;
 }
 
@@ -378,6 +383,7 @@ size_t flailreeve_text(uint16_t number, uint8_t *out, size_t out_len)
         "a slot is in no chain",
         "a free slot is not wiped",
         "a list is over its limit, or the shares are not covered",
+        "a stored count is wrong",
     };
     const char *text = "this version does not know the number";
     size_t bytes;

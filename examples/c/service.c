@@ -1,4 +1,4 @@
-/* What field service reads from a damaged device: a pool is damaged in three ways, and each time a call says which rule is broken first
+/* What field service reads from a damaged device: a pool is damaged in four ways, and each time a call says which rule is broken first
  * and where. A setup, which wipes every slot, makes the pool sound again. */
 #include <stdio.h>
 #include <stdlib.h>
@@ -66,6 +66,9 @@ int main(void)
     start();
     book.free_head = 6;
     check("the free head was written over with 6: slot 5 is neither free nor in a list");
+    start();
+    book.list[KEY_EVENTS].length ^= 16;
+    check("a bit of list 1's length in the book has flipped: its chain is whole, and the book says 19 where it has 3");
     start();
     check("after a setup and the same pushes");
     return 0;

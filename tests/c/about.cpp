@@ -24,7 +24,7 @@ void must_be(const char *what, unsigned long got, unsigned long wanted)
 }
 
 // The last number that has a text of its own. What the numbers above it show stands in the notices under the next and under 65,535.
-constexpr unsigned last_number = FLAILREEVE_OVER_LIMIT;
+constexpr unsigned last_number = FLAILREEVE_WRONG_COUNT;
 
 // The notices, "number: text" a line.
 std::map<unsigned, std::string> read_notices(const char *file)

@@ -1,4 +1,4 @@
-// The first rule of a sound pool that is broken, and where, as document 02 b) tells it.
+// The first rule of a sound pool that is broken, and where, as document 02 b) and c) tell it.
 //
 // Each rule is one function that answers whether it is broken and where; they are asked in the order of their numbers. The slots
 // of a chain are first written down position by position, whatever they are; then they are judged. Only the slots of a chain that
@@ -32,7 +32,7 @@ inline bool rules(std::size_t n, const flailreeve_book &book)
     for (unsigned k = 0; k < 8; k++) {
         share_of[k] = book.list[k].share;
         limit_of[k] = book.list[k].limit;
-        if (k >= book.lists && (book.list[k].head != 0 || book.list[k].tail != 0))
+        if (k >= book.lists && (book.list[k].head != 0 || book.list[k].tail != 0 || book.list[k].length != 0))
             return false;
     }
     return rules(n, book.lists, share_of, limit_of);
@@ -72,6 +72,8 @@ public:
             rest = unwiped_slot();
         if (rest.number == 0)
             rest = over_limit();
+        if (rest.number == 0)
+            rest = wrong_count();
         return rest;
     }
 
@@ -161,6 +163,9 @@ private:
         return broken(0, 0, 0);
     }
 
+    std::size_t free_slots() const { return static_cast<std::size_t>(std::count(free.begin(), free.end(), true)); }
+
+    // By the lengths of the chains: what the book says of them is asked for later.
     Broken over_limit() const
     {
         std::size_t lack = 0;
@@ -170,7 +175,15 @@ private:
         for (std::size_t k = 0; k < m.book.lists; k++)
             if (m.book.list[k].share > length_of[k])
                 lack += m.book.list[k].share - length_of[k];
-        return static_cast<std::size_t>(std::count(free.begin(), free.end(), true)) < lack ? broken(15, m.book.lists, 0) : broken(0, 0, 0);
+        return free_slots() < lack ? broken(15, m.book.lists, 0) : broken(0, 0, 0);
+    }
+
+    Broken wrong_count() const
+    {
+        for (std::size_t k = 0; k < m.book.lists; k++)
+            if (m.book.list[k].length != length_of[k])
+                return broken(16, k, 0);
+        return m.book.free_count != free_slots() ? broken(16, m.book.lists, 0) : broken(0, 0, 0);
     }
 };
 

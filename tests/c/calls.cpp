@@ -1,9 +1,11 @@
-// The ten calls of a library, by way of include/flailreeve.h, against the model: 01's pools, pools broken by hand, every tiny pool, random
-// sequences, random sound pools, damaged ones, wrong sizes and wrong setups, presses undone. Fixed seeds; it ends with the tables of numbers.
+// The ten calls of a library, by way of include/flailreeve.h, against the model: 01's pools, pools broken or miscounted by hand, every
+// tiny pool, random sequences, random sound pools, damaged ones, wrong sizes and wrong setups, presses undone. Fixed seeds; it ends with
+// the tables of numbers.
 #include <cstdlib>
 #include <ctime>
 
 #include "damage.hpp"
+#include "miscounts.hpp"
 #include "places.hpp"
 #include "pools.hpp"
 #include "tiny.hpp"
@@ -156,7 +158,7 @@ static unsigned random_setups()
         std::size_t n = setups % 50 == 0 ? dice.from(2, 4097) : dice.from(1, 20);
         m.links.assign(n, dice.half(0, 65535));
         m.values.assign(dice.one_in(20) ? n + 1 : n, dice.word());
-        for (std::uint16_t *word = word_of(m, n); word < word_of(m, n) + 34; word++)
+        for (std::uint16_t *word = word_of(m, n); word < word_of(m, n) + model::book_words; word++)
             *word = static_cast<std::uint16_t>(dice.word());
         model::random_rules(dice, std::max<std::size_t>(n, 2), ask);
         const std::uint16_t strange[] = {0, 1, 7, 8, 9, 255, 256, 257, 65535};
@@ -236,6 +238,13 @@ static void places()
     std::printf("  %lu pools broken by hand, each with its number and place\n", places.pools);
 }
 
+static void miscounts()
+{
+    Miscounts miscounts;
+    miscounts.all();
+    std::printf("  %lu pools miscounted by hand, each with its number and place\n", miscounts.pools);
+}
+
 static void undo()
 {
     Undo undo(6);
@@ -249,8 +258,8 @@ int main(int argc, char **argv)
     const struct {
         const char *name;
         void (*run)();
-    } stages[] = {{"pools", pools}, {"places", places}, {"setups", setups}, {"lengths", lengths}, {"damage", damage},
-                  {"undo", undo}, {"shapes", shapes}, {"sequences", sequences}, {"tiny", tiny}};
+    } stages[] = {{"pools", pools}, {"places", places}, {"miscounts", miscounts}, {"setups", setups}, {"lengths", lengths},
+                  {"damage", damage}, {"undo", undo}, {"shapes", shapes}, {"sequences", sequences}, {"tiny", tiny}};
     bool only = argc > 1;
     catch_faults();
     for (const auto &stage : stages) {

@@ -52,8 +52,8 @@ inline Needs needs(const Case &c)
 }
 
 // Can there be such a case? The table says which numbers a call gives. A sound pool has 0 in its free slots and in slot 0, so
-// that the block is there only if the pool is damaged or is not looked at; in a free slot it is never with 15, which comes after 14,
-// and in slot 0 never with a number that comes after 10. An empty list has it nowhere.
+// that the block is there only if the pool is damaged or is not looked at; in a free slot it is never with a number that comes
+// after 14, and in slot 0 never with one that comes after 10. An empty list has it nowhere.
 inline bool possible(const Case &c)
 {
     if (!model::table[c.call][c.number])
@@ -65,7 +65,7 @@ inline bool possible(const Case &c)
     if (c.where == read_buffer && !reads(c.call))
         return false;
     bool any_pool = c.call == model::setup || c.number == 1;
-    if (c.where == free_slot && !any_pool && (c.number < model::first_rule || c.number == 15))
+    if (c.where == free_slot && !any_pool && (c.number < model::first_rule || c.number > 14))
         return false;
     if (c.where == null_slot && !any_pool && c.number != 9 && c.number != 10)
         return false;

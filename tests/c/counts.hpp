@@ -16,11 +16,11 @@ inline unsigned long rule[spans][model::numbers];
 
 // The kinds of place, where a number has more than one.
 enum Kind { list_at_head, list_further, list_zero, list_later, free_at_head, free_further, lost_one, lost_later, unwiped_one,
-            unwiped_later, over_zero, over_later, uncovered, kinds };
+            unwiped_later, over_zero, over_later, uncovered, count_zero, count_later, count_free, kinds };
 constexpr const char *words[kinds] = {
     "11 at position 0", "11 further on", "11 in list 0", "11 in a later list", "12 at position 0", "12 further on",
     "13 of slot 1", "13 of a later slot", "14 of slot 1", "14 of a later slot", "15 of list 0", "15 of a later list",
-    "15 of the shares"};
+    "15 of the shares", "16 of list 0", "16 of a later list", "16 of the free slots"};
 inline unsigned long kind[spans][kinds];
 
 inline int span_of(std::size_t n)
@@ -49,6 +49,9 @@ inline void count_kind(unsigned long (&to)[kinds], unsigned number, const flailr
         break;
     case 15:
         to[place.list == lists ? uncovered : place.list == 0 ? over_zero : over_later]++;
+        break;
+    case 16:
+        to[place.list == lists ? count_free : place.list == 0 ? count_zero : count_later]++;
         break;
     }
 }

@@ -1,5 +1,5 @@
-// Damaged pools: every word and value in turn, several words at once, and each rule broken by itself and with each other, in pools of
-// every size. The model says by the definition which rule is broken first and where.
+// Damaged pools: every word and value in turn, several words at once, the stored counts, and each rule broken by itself and with each
+// other, in pools of every size. The model says by the definition which rule is broken first and where.
 #pragma once
 
 #include "ground.hpp"
@@ -40,6 +40,10 @@ public:
             sound_pool(n);
             each_word();
         }
+        for (std::size_t n : {2, 2, 3, 3, 4, 5, 6, 7, 8, 9, 17, 64, 65, 255, 256, 257, 258, 1024, 4095, 4096}) {
+            sound_pool(n);
+            each_count();
+        }
         for (unsigned i = 0; i < 40; i++) {
             sound_pool(i % 10 == 0 ? dice.from(1000, 4096) : dice.from(100, 400));
             some_words(3);
@@ -77,14 +81,14 @@ private:
     // numbers.
     void each_word()
     {
-        std::size_t n = m.links.size();
-        for (std::size_t at = 0; at < n + 34; at++) {
+        std::size_t n = m.links.size(), last = n + model::book_words - 1;
+        for (std::size_t at = 0; at < n + model::book_words; at++) {
             std::uint16_t *word = word_of(m, at);
             std::uint16_t kept = *word;
             const std::uint16_t choices[] = {0, 1, static_cast<std::uint16_t>(n - 1), static_cast<std::uint16_t>(n),
                                              static_cast<std::uint16_t>(kept ^ 1), static_cast<std::uint16_t>(kept + 1),
                                              static_cast<std::uint16_t>(kept - 1), static_cast<std::uint16_t>(kept | 32768),
-                                             dice.half(0, n), dice.half(0, 65535), *word_of(m, dice.from(0, n + 33))};
+                                             dice.half(0, n), dice.half(0, 65535), *word_of(m, dice.from(0, last))};
             for (std::uint16_t other : choices)
                 if (other != kept) {
                     *word = other;
@@ -110,14 +114,45 @@ private:
     void some_words(unsigned times)
     {
         const model::Memory whole = m;
-        std::size_t n = m.links.size();
+        std::size_t n = m.links.size(), last = n + model::book_words - 1;
         for (unsigned i = 0; i < times; i++) {
             m = whole;
             for (std::size_t left = dice.from(2, 4); left > 0; left--) {
-                std::uint16_t *word = word_of(m, dice.from(0, n + 33));
-                *word = dice.one_in(2) ? *word_of(m, dice.from(0, n + 33)) : dice.half(0, n);
+                std::uint16_t *word = word_of(m, dice.from(0, last));
+                *word = dice.one_in(2) ? *word_of(m, dice.from(0, last)) : dice.half(0, n);
             }
             after();
+        }
+    }
+
+    // The stored counts: each one higher or lower by one and in each of its bits, each two exchanged, and one higher and another lower so
+    // that their sum stays what it was.
+    void each_count()
+    {
+        const flailreeve_book kept = m.book;
+        std::vector<std::uint16_t *> counts = {&m.book.free_count};
+        for (std::size_t k = 0; k < kept.lists; k++)
+            counts.push_back(&m.book.list[k].length);
+        auto then = [&] {
+            after();
+            m.book = kept;
+        };
+        for (std::uint16_t *one : counts) {
+            for (unsigned bit = 0; bit < 16; bit++) {
+                *one = static_cast<std::uint16_t>(*one ^ 1u << bit);
+                then();
+            }
+            ++*one;
+            then();
+            --*one;
+            then();
+            for (std::uint16_t *other : counts) {
+                std::swap(*one, *other);
+                then();
+                ++*one;
+                --*other;
+                then();
+            }
         }
     }
 

@@ -176,7 +176,7 @@ private:
         same(ask, "link", links.data(), want.links.data(), want.links.size());
         same(ask, "value", values.data(), want.values.data(), want.values.size());
         same(ask, "word of the book", reinterpret_cast<const std::uint16_t *>(book.data()),
-             reinterpret_cast<const std::uint16_t *>(&want.book), 34);
+             reinterpret_cast<const std::uint16_t *>(&want.book), model::book_words);
         same(ask, "cell of the buffer", out.data(), want.out.data(), want.out.size());
         if (wide)
             same(ask, "the value handed out,", value.data(), &want.word, 1);

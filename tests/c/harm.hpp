@@ -26,8 +26,10 @@ public:
             return lost_slot();
         case 14:
             return unwiped_slot();
-        default:
+        case 15:
             return dice.one_in(2) ? over_limit() || uncovered() : uncovered() || over_limit();
+        default:
+            return count();
         }
     }
 
@@ -67,7 +69,7 @@ private:
             return true;
         default: {
             flailreeve_list &unused = m.book.list[dice.from(lists, 7)];
-            std::uint16_t *const words[] = {&unused.head, &unused.tail, &unused.share, &unused.limit};
+            std::uint16_t *const words[] = {&unused.head, &unused.tail, &unused.share, &unused.limit, &unused.length};
             *dice.one_of(words) = dice.one_in(2) ? half(1u << dice.from(0, 15)) : dice.half(1, n - 1);
             return true;
         }
@@ -208,6 +210,32 @@ private:
         m.book.list[k].share = half(owed);
         m.book.list[k].limit = std::max(m.book.list[k].limit, half(owed));
         return true;
+    }
+
+    // The stored length of list k, or the stored number of free slots where there is no list k.
+    std::uint16_t &stored(std::size_t k) { return k < q.list.size() ? m.book.list[k].length : m.book.free_count; }
+
+    // One stored count is another by one, by a bit or by anything; or one is higher and another lower by the same.
+    bool count()
+    {
+        std::size_t k = dice.from(0, q.list.size());
+        std::uint16_t &one = stored(k), &other = stored((k + dice.from(1, q.list.size())) % (q.list.size() + 1));
+        std::uint16_t by = half(dice.one_in(2) ? 1 : dice.from(1, n));
+        switch (dice.from(0, 3)) {
+        case 0:
+            one = half(dice.one_in(2) ? one + 1 : one - 1);
+            return true;
+        case 1:
+            one = half(one ^ 1u << dice.from(0, 15));
+            return true;
+        case 2:
+            one = half(one + dice.from(1, 65535));
+            return true;
+        default:
+            one = half(one + by);
+            other = half(other - by);
+            return true;
+        }
     }
 };
 

@@ -1,9 +1,9 @@
 // The ten calls as document 01 tells them, over sequences: the independent model that a library is compared with.
 //
 // A list is a deque of slots with their values, the free slots are a deque, and the cells of a pool are written down from
-// these deques. Whether given cells are sound is decided twice: by 01's definition, clause by clause, on sequences that are held
-// against the cells (`fits`), with no record of slots met; and by 02 b)'s rules (broken.hpp), which also say where it is not. The
-// two must agree.
+// these deques. Whether given cells are sound is decided twice: by 01's definition with 02 c)'s clause, one by one, on sequences that
+// are held against the cells (`fits`), with no record of slots met; and by the rules of 02 b) and c) (broken.hpp), which also say where
+// it is not. The two must agree.
 #pragma once
 
 #include <deque>
@@ -91,7 +91,16 @@ inline bool free_fits(const Memory &m, const std::deque<std::uint16_t> &free)
     return true;
 }
 
-// 01's definition of sound, for these sequences.
+// 02 c): each stored length, and the stored number of free slots, is its sequence's length.
+inline bool counts_fit(const flailreeve_book &book, const Queues &q)
+{
+    for (std::size_t k = 0; k < q.list.size(); k++)
+        if (q.list[k].size() != book.list[k].length)
+            return false;
+    return q.free.size() == book.free_count;
+}
+
+// The definition of sound, for these sequences.
 inline bool fits(const Memory &m, const Queues &q)
 {
     if (!rules(q.n, m.book) || m.links[0] != 0 || m.values[0] != 0)
@@ -101,7 +110,7 @@ inline bool fits(const Memory &m, const Queues &q)
     for (std::size_t k = 0; k < q.list.size(); k++)
         if (!list_fits(m, q.list[k], m.book.list[k]) || q.list[k].size() > m.book.list[k].limit)
             return false;
-    return lacks(q) <= q.free.size();
+    return lacks(q) <= q.free.size() && counts_fit(m.book, q);
 }
 
 // The only sequences that can fit, if any do: each list is guessed from its tail backwards, since a link and the slot after
@@ -152,6 +161,7 @@ inline void write_down(const Queues &q, Memory &m)
         m.book.list[k].limit = q.limit[k];
         m.book.list[k].head = list.empty() ? 0 : list.front().slot;
         m.book.list[k].tail = list.empty() ? 0 : list.back().slot;
+        m.book.list[k].length = static_cast<std::uint16_t>(list.size());
         unsigned before = 0;
         for (auto e = list.begin(); e != list.end(); ++e) {
             unsigned after = e + 1 == list.end() ? 0 : (e + 1)->slot;
@@ -161,6 +171,7 @@ inline void write_down(const Queues &q, Memory &m)
         }
     }
     m.book.free_head = q.free.empty() ? 0 : q.free.front();
+    m.book.free_count = static_cast<std::uint16_t>(q.free.size());
     for (std::size_t i = 0; i + 1 < q.free.size(); i++)
         m.links[q.free[i]] = q.free[i + 1];
 }
@@ -262,7 +273,7 @@ inline std::uint16_t on_queues(const Ask &ask, Queues &q, Memory &m)
     }
 }
 
-// The first rule that is broken, and none exactly where 01 calls the pool sound with these sequences.
+// The first rule that is broken, and none exactly where the definition calls the pool sound with these sequences.
 inline Broken judge(const Memory &m, const Queues &q)
 {
     Broken rule = first_broken(m);

@@ -1,12 +1,11 @@
-// Pools that are broken by hand, each with the number and the place that document 02 b)'s words give it, written down here. They test
-// the library, and the model too.
+// Pools that are broken by hand, each with the number from 9 to 15 and the place that document 02 b)'s words give it.
 #pragma once
 
-#include "ground.hpp"
+#include "byhand.hpp"
 
-class Places {
+class Places : private ByHand {
 public:
-    unsigned long pools = 0;
+    using ByHand::pools;
 
     void all()
     {
@@ -27,41 +26,6 @@ public:
     }
 
 private:
-    model::Memory m;
-    Ground ground;
-
-    // Eight slots: list 0 is 3, 1, 6 and list 1 is 4; the free slots are 7, 2, 5. Shares 1 and 2, limits 5 and 4.
-    void sound()
-    {
-        m = {};
-        m.links = {0, 3 ^ 6, 5, 1, 0, 0, 1, 2};
-        m.values = {0, 11, 0, 33, 44, 0, 66, 0};
-        m.book.lists = 2;
-        m.book.list[0] = {3, 6, 1, 5};
-        m.book.list[1] = {4, 4, 2, 4};
-        m.book.free_head = 7;
-        m.out.assign(8, 5);
-    }
-
-    // All nine calls give the number with the place, and then the pool is sound again.
-    void gives(std::uint16_t number, std::uint16_t list, std::uint16_t position)
-    {
-        for (int c = model::check; c <= model::clear; c++) {
-            model::Memory after = m;
-            model::Ask ask;
-            ask.call = static_cast<model::Call>(c);
-            ask.list = c % 2 == 0 ? 0 : 9;  // that there is no such list comes later
-            std::uint16_t said = model::answer(ask, after);
-            if (said != number || after.place.list != list || after.place.position != position)
-                fail("the model gives %u at %u, %u for %s, and by hand it is %u at %u, %u", said, after.place.list, after.place.position,
-                     model::names[c], number, list, position);
-            ground.spot = static_cast<Spot>(c % 3);
-            ground.run(ask, m, c % 4 == 1);
-        }
-        pools++;
-        sound();
-    }
-
     void book()
     {
         sound();
@@ -75,13 +39,14 @@ private:
         gives(9, 0, 0);
         m.book.list[1].share = 5;
         gives(9, 0, 0);
-        m.book.list[0] = {3, 6, 4, 5};  // 4 and 4 are 8
-        m.book.list[1] = {4, 4, 4, 4};
+        m.book.list[0] = {3, 6, 4, 5, 3};  // 4 and 4 are 8
+        m.book.list[1] = {4, 4, 4, 4, 1};
         gives(9, 0, 0);
         for (unsigned k = 2; k < 8; k++)
-            for (unsigned word = 0; word < 4; word++) {
+            for (unsigned word = 0; word < 5; word++) {
                 flailreeve_list &entry = m.book.list[k];
-                *(word == 0 ? &entry.head : word == 1 ? &entry.tail : word == 2 ? &entry.share : &entry.limit) = 1;
+                std::uint16_t *const words[] = {&entry.head, &entry.tail, &entry.share, &entry.limit, &entry.length};
+                *words[word] = 1;
                 gives(9, 0, 0);
             }
     }
@@ -126,7 +91,7 @@ private:
     {
         m.book.list[1].head = 1;  // list 0's: the later list is to blame
         gives(11, 1, 0);
-        m.book.list[0] = {4, 4, 1, 5};  // list 0 has list 1's slot, and it is list 0's ends that were written over
+        m.book.list[0] = {4, 4, 1, 5, 3};  // list 0 has list 1's slot, and it is list 0's ends that were written over
         gives(11, 1, 0);
         m.links[4] = 6;  // list 1 goes on into list 0
         gives(11, 1, 1);
@@ -180,29 +145,21 @@ private:
     {
         m.book.list[0].limit = 2;
         gives(15, 0, 0);
-        m.book.list[1] = {4, 4, 0, 0};
+        m.book.list[1] = {4, 4, 0, 0, 1};
         gives(15, 1, 0);
         m.book.list[0].limit = 1;
-        m.book.list[1] = {4, 4, 0, 0};
+        m.book.list[1] = {4, 4, 0, 0, 1};
         gives(15, 0, 0);
-        m.book.list[1] = {4, 4, 5, 5};  // it lacks 4, and three slots are free
+        m.book.list[1] = {4, 4, 5, 5, 1};  // it lacks 4, and three slots are free
         gives(15, 2, 0);
         m.book.list[0].limit = 2;  // and list 0 is over its limit too
-        m.book.list[1] = {4, 4, 5, 5};
+        m.book.list[1] = {4, 4, 5, 5, 1};
         gives(15, 0, 0);
         m.book.lists = 8;  // six more that have nothing and may have nothing
-        m.book.list[1] = {4, 4, 5, 5};
+        m.book.list[1] = {4, 4, 5, 5, 1};
         gives(15, 8, 0);
-        m.book.list[1] = {4, 4, 4, 4};  // it lacks 3: covered
+        m.book.list[1] = {4, 4, 4, 4, 1};  // it lacks 3: covered
         gives_done();
-    }
-
-    void gives_done()
-    {
-        model::Ask ask;
-        if (ground.run(ask, m) != 0)
-            fail("the model does not call a sound pool sound");
-        sound();
     }
 
     // Two rules at once: the first is named.
@@ -263,8 +220,8 @@ private:
             null_slot_too(link);
             m.book.list[1].share = 5;
             null_slot_too(link);
-            m.book.list[0] = {3, 6, 4, 5};
-            m.book.list[1] = {4, 4, 4, 4};
+            m.book.list[0] = {3, 6, 4, 5, 3};
+            m.book.list[1] = {4, 4, 4, 4, 1};
             null_slot_too(link);
             m.book.list[7].limit = 1;
             null_slot_too(link);
@@ -308,7 +265,7 @@ private:
         if (over)
             m.book.list[0].limit = 2;
         else
-            m.book.list[1] = {4, 4, 5, 5};
+            m.book.list[1] = {4, 4, 5, 5, 1};
     }
 
     // The shares are not covered, no list is over its limit, and the one free slot is not wiped; and then it is.
@@ -319,9 +276,10 @@ private:
             m.values = {0, 11, wiped ? 0u : 22u};
             m.book = {};
             m.book.lists = 2;
-            m.book.list[0] = {1, 1, 0, 2};
-            m.book.list[1] = {0, 0, 2, 2};
+            m.book.list[0] = {1, 1, 0, 2, 1};
+            m.book.list[1] = {0, 0, 2, 2, 0};
             m.book.free_head = 2;
+            m.book.free_count = 1;
             if (wiped)
                 gives(15, 2, 0);
             else
@@ -329,35 +287,7 @@ private:
         }
     }
 
-    // ---- the largest pool, 4,096 slots, up to its last place
-
-    // So many lists, which may have every slot and have none; the free slots are 1, 2, .. 4095.
-    void largest(std::uint16_t lists)
-    {
-        m.links.assign(4096, 0);
-        m.values.assign(4096, 0);
-        for (std::uint16_t slot = 1; slot < 4095; slot++)
-            m.links[slot] = static_cast<std::uint16_t>(slot + 1);
-        m.book = {};
-        m.book.lists = lists;
-        for (unsigned k = 0; k < lists; k++)
-            m.book.list[k].limit = 4095;
-        m.book.free_head = 1;
-    }
-
-    // The same, and list k has every slot, in the order of their numbers.
-    void largest(std::uint16_t lists, unsigned k)
-    {
-        largest(lists);
-        for (std::uint16_t slot = 1; slot < 4095; slot++)
-            m.links[slot] = static_cast<std::uint16_t>((slot - 1) ^ (slot + 1));
-        m.links[4095] = 4094;
-        m.values.assign(4096, 7);
-        m.values[0] = 0;
-        m.book.list[k].head = 1;
-        m.book.list[k].tail = 4095;
-        m.book.free_head = 0;
-    }
+    // ---- the largest pool, up to its last place
 
     void largest_list()
     {

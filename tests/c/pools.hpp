@@ -1,4 +1,4 @@
-// Document 01's own pools, with the cells that 01 writes down. They test the library, and the model too.
+// Document 01's own pools, with the cells that 01 writes down and the counts that 02 c) adds. They test the library, and the model too.
 #pragma once
 
 #include "ground.hpp"
@@ -71,6 +71,14 @@ private:
             fail("a word of the model's book is %u, document 01 says %u", got, want);
     }
 
+    // The stored lengths of lists 0 and 1 and the stored number of free slots.
+    void counts_are(std::uint16_t zero, std::uint16_t one, std::uint16_t free)
+    {
+        if (m.book.list[0].length != zero || m.book.list[1].length != one || m.book.free_count != free)
+            fail("the model's counts are %u, %u and %u, and by hand %u, %u and %u", m.book.list[0].length, m.book.list[1].length,
+                 m.book.free_count, zero, one, free);
+    }
+
     void place_is(std::uint16_t list, std::uint16_t position)
     {
         if (m.place.list != list || m.place.position != position)
@@ -85,20 +93,28 @@ private:
         set_up(0, 2, {2, 1}, {5, 3});
         links_are({0, 2, 3, 4, 5, 0});
         word_is(m.book.free_head, 1);
+        counts_are(0, 0, 5);
         on(5, pop_back, 1);
+        counts_are(0, 0, 5);
         on(0, push_back, 0, 20);
+        counts_are(1, 0, 4);
         on(0, push_back, 0, 30);
         on(0, push_front, 0, 10);
         links_are({0, 1, 1, 1, 5, 0});
         word_is(m.book.list[0].head, 3);
         word_is(m.book.list[0].tail, 2);
         word_is(m.book.free_head, 4);
+        counts_are(3, 0, 2);
+        on(0, length, 0, 0, 3);
         on(0, push_back, 0, 40);
         links_are({0, 1, 5, 1, 2, 0});
         word_is(m.book.list[0].tail, 4);
         word_is(m.book.free_head, 5);
+        counts_are(4, 0, 1);
         on(7, push_back, 0, 50);
+        counts_are(4, 0, 1);
         on(0, push_back, 1, 60);
+        counts_are(4, 1, 0);
         word_is(m.book.list[1].head, 5);
         word_is(m.book.free_head, 0);
         on(7, push_back, 1, 61);
@@ -106,40 +122,59 @@ private:
         links_are({0, 2, 5, 0, 2, 0});
         word_is(m.book.list[0].head, 1);
         word_is(m.book.free_head, 3);
+        counts_are(3, 1, 1);
         if (m.values[3] != 0)
             fail("the model's slot 3 still holds what was popped");
         on(0, push_back, 1, 61);
         word_is(m.links[3], 5);
         word_is(m.links[5], 3);
+        counts_are(3, 2, 0);
         on(0, clear, 0);
+        counts_are(0, 2, 3);
         on(0, clear, 0);
+        counts_are(0, 2, 3);
+        on(0, clear, 1);
+        counts_are(0, 0, 5);
     }
 
-    // P8: a live slot's link may be N or more.
+    // P8: a live slot's link may be N or more. Its length is 3, and two slots are free.
     void far_link()
     {
         fresh(6);
         m.links = {0, 7, 5, 1, 1, 0};
         m.values = {0, 11, 0, 33, 44, 0};
         m.book.lists = 1;
-        m.book.list[0] = {3, 4, 0, 5};
+        m.book.list[0] = {3, 4, 0, 5, 3};
         m.book.free_head = 2;
+        m.book.free_count = 2;
         on(0, model::check, 0);
+        on(0, model::length, 0, 0, 3);
+        m.book.list[0].length = 2;
+        on(16, model::check, 0);
+        place_is(0, 0);
+        m.book.list[0].length = 3;
+        m.book.free_count = 3;
+        on(16, model::check, 0);
+        place_is(1, 0);
         m.values[5] = 1;
         on(14, model::check, 0);
         place_is(0, 5);
     }
 
-    // P9: N-1 visits that end at the tail, and slot 3 belongs to nobody.
+    // P9: N-1 visits that end at the tail, and slot 3 belongs to nobody; whatever the counts are.
     void twice_visited()
     {
         fresh(4);
         m.links = {0, 2, 0, 0};
         m.values = {0, 0, 0, 0};
         m.book.lists = 1;
-        m.book.list[0] = {1, 1, 0, 3};
-        on(11, model::check, 0);
-        place_is(0, 2);
+        for (std::uint16_t length : {0, 1, 2, 3, 4, 65535})
+            for (std::uint16_t free : {0, 1, 2, 3, 4, 65535}) {
+                m.book.list[0] = {1, 1, 0, 3, length};
+                m.book.free_count = free;
+                on(11, model::check, 0);
+                place_is(0, 2);
+            }
     }
 
     void setup_sizes()

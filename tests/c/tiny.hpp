@@ -1,8 +1,9 @@
 // Every tiny pool: the check is held against the set of all pools that have sequences, made by listing the sequences.
 //
-// Each way to put the slots 1 to N-1 in order and cut them into L lists and the free slots is written down as cells. These
-// are all the sound pools there are; nothing is walked. Then every choice of links below 8, heads, tails and free head is
-// handed to the check. Which rule is broken, and where, the model says of each.
+// Each way to put the slots 1 to N-1 in order and cut them into L lists and the free slots is written down as cells, with the
+// counts that it has. These are all the sound pools there are; nothing is walked. Then every choice of links below 8, heads, tails
+// and free head is handed to the check, with some counts; and where there are sequences, with every count that is near. Which rule
+// is broken, and where, the model says of each.
 #pragma once
 
 #include <algorithm>
@@ -13,7 +14,7 @@
 
 class Tiny {
 public:
-    unsigned long pools = 0, sound_pools = 0, by_definition = 0;
+    unsigned long pools = 0, sound_pools = 0, miscounted = 0, by_definition = 0;
 
     // All pools of n slots and these lists; shares and limits are one for each list. `every` n-th pool is held against the model's
     // definition of sound too.
@@ -47,14 +48,14 @@ public:
         m.values.assign(n, 0);
         for (unsigned cells = 0; cells < 12; cells++)
             for (std::uint16_t lists : {0, 1, 2, 3, 8, 9, 256, 257, 65535})
-                for (unsigned unused = 0; unused <= 24; unused += lists < 8 ? 1 : 25)
-                    all_rules(cells, lists, unused);
+                for (unsigned strange = 0; strange <= 33; strange += lists < 8 || strange < 3 ? 1 : 31)
+                    all_rules(cells, lists, strange);
     }
 
     void say() const
     {
-        std::printf("  %lu pools through the check, %lu of them sound, %lu of them by the definition of sound too\n", pools, sound_pools,
-                    by_definition);
+        std::printf("  %lu pools through the check, %lu of them sound and %lu but for their counts, %lu by the definition of sound too\n",
+                    pools, sound_pools, miscounted, by_definition);
         for (std::size_t slots = 2; slots <= 4; slots++) {
             std::printf("  of %zu slots:", slots);
             for (int number = model::first_rule; number < model::numbers; number++) {
@@ -70,7 +71,7 @@ private:
     std::size_t n = 0;
     std::vector<std::uint16_t> share, limit;
     std::vector<model::Queues> shapes;
-    std::unordered_map<std::uint64_t, unsigned> free_of;  // the cells of each sound pool, and which of its slots are free
+    std::unordered_map<std::uint64_t, std::size_t> shape_of;  // the cells of each sound pool, and which of the shapes it is
     model::Memory m;
     Ground ground;
     unsigned long times[5][model::numbers] = {};  // how often each number was given, by the number of slots
@@ -91,7 +92,7 @@ private:
         std::vector<std::uint16_t> order(n - 1);
         std::iota(order.begin(), order.end(), static_cast<std::uint16_t>(1));
         shapes.clear();
-        free_of.clear();
+        shape_of.clear();
         do {
             model::Queues q;
             q.n = n;
@@ -121,23 +122,21 @@ private:
 
     void keep(const model::Queues &q)
     {
-        unsigned free = 0;
         for (std::size_t k = 0; k < q.list.size(); k++)
             if (q.list[k].size() > q.limit[k])
                 return;
         if (model::lacks(q) > q.free.size())
             return;
-        for (std::uint16_t slot : q.free)
-            free |= 1u << slot;
         model::write_down(q, m);
-        if (!free_of.emplace(key(m.links.data(), m.book), free).second)
+        if (!shape_of.emplace(key(m.links.data(), m.book), shapes.size()).second)
             fail("two different sequences fit one pool of %zu slots", n);
         shapes.push_back(q);
     }
 
     // Every share and limit up to n of lists 0 and 1. `cells` says what the pool is like: from 4 on slot 1 is list 0's and from 8 on
-    // list 1's, else all are free; bit 0 spoils slot 0's link and bit 1 its value. `unused` says which word of entries 2 to 7 is 1.
-    void all_rules(unsigned cells, std::uint16_t lists, unsigned unused)
+    // list 1's, else all are free; bit 0 spoils slot 0's link and bit 1 its value. `strange` is 0, or says which count is one too high, from
+    // 1 to 3 list 0's, list 1's and that of the free slots, or from 4 on which word of entries 2 to 7 is 1.
+    void all_rules(unsigned cells, std::uint16_t lists, unsigned strange)
     {
         std::memset(&small, 0xd6, sizeof small);
         small.book = {};
@@ -147,15 +146,20 @@ private:
             small.links[slot] = static_cast<std::uint16_t>(slot == 0 ? cells & 1 : slot + 1 < n ? slot + 1 : 0);
         }
         small.book.free_head = 1;
+        small.book.free_count = static_cast<std::uint16_t>(n - 1);
         if (cells >= 4) {
             flailreeve_list &holder = small.book.list[cells >= 8];
             small.book.free_head = small.links[1];
-            holder.head = holder.tail = 1;
+            small.book.free_count--;
+            holder.head = holder.tail = holder.length = 1;
             small.links[1] = 0;
         }
-        if (unused > 0)
-            reinterpret_cast<std::uint16_t *>(&small.book)[1 + 4 * 2 + unused - 1] = 1;
         flailreeve_list &one = small.book.list[0], &two = small.book.list[1];
+        one.length += strange == 1;
+        two.length += strange == 2;
+        small.book.free_count += strange == 3;
+        if (strange > 3)
+            reinterpret_cast<std::uint16_t *>(&small.book)[1 + 5 * 2 + strange - 4] = 1;
         for (one.share = 0; one.share <= n; one.share++)
             for (one.limit = 0; one.limit <= n; one.limit++)
                 for (two.share = 0; two.share <= n; two.share++)
@@ -177,7 +181,7 @@ private:
     };
     Small small = {};
 
-    // Counts through links, heads, tails and the free head. A value that is not 0 stands in each slot of the mask.
+    // Goes through links, heads, tails and the free head. A value that is not 0 stands in each slot of the mask.
     void all_cells(unsigned mask, std::uint16_t null_link, unsigned long every)
     {
         std::vector<std::uint16_t *> digit;
@@ -213,15 +217,58 @@ private:
         }
     }
 
+    // Where the cells have no sequences the counts are some or others, and no pool is sound. Where they have, it is sound with the counts of
+    // the sequences alone; of any others the lowest list whose count is wrong is known here too.
     void one(unsigned mask, unsigned long every)
     {
-        std::uint64_t cells = key(small.links, small.book);
-        auto found = free_of.find(cells);
-        bool sound = found != free_of.end() && (mask & (found->second | 1u)) == 0;
+        auto found = shape_of.find(key(small.links, small.book));
+        if (found == shape_of.end()) {
+            small.book.list[0].length = static_cast<std::uint16_t>(pools % (n + 1));
+            small.book.list[1].length = static_cast<std::uint16_t>(share.size() > 1 ? pools / 7 % (n + 1) : 0);
+            small.book.free_count = static_cast<std::uint16_t>(pools / 3 % (n + 1));
+            judged(false, every);
+            return;
+        }
+        const model::Queues &q = shapes[found->second];
+        const bool two = share.size() > 1;
+        bool wiped = (mask & 1) == 0;
+        for (std::uint16_t slot : q.free)
+            wiped = wiped && (mask >> slot & 1) == 0;
+        for (std::uint16_t zero : near(q.list[0].size()))
+            for (std::uint16_t first : two ? near(q.list[1].size()) : std::vector<std::uint16_t>(1))
+                for (std::uint16_t free : near(q.free.size())) {
+                    bool right = zero == q.list[0].size() && free == q.free.size() && (!two || first == q.list[1].size());
+                    small.book.list[0].length = zero;
+                    small.book.list[1].length = first;
+                    small.book.free_count = free;
+                    model::Broken rule = judged(wiped && right, every);
+                    if (!wiped || right)
+                        continue;
+                    std::size_t list = zero != q.list[0].size() ? 0 : two && first != q.list[1].size() ? 1 : share.size();
+                    if (rule.number != 16 || rule.place.list != list)
+                        fail("the model gives %u and list %u for a pool of %zu slots that is miscounted in list %zu", rule.number,
+                             rule.place.list, n, list);
+                    miscounted++;
+                }
+    }
+
+    // The counts that are tried: all up to one more than the pool has slots, and some that are far from this one.
+    std::vector<std::uint16_t> near(std::size_t count) const
+    {
+        std::vector<std::uint16_t> all(n + 2);
+        std::iota(all.begin(), all.end(), static_cast<std::uint16_t>(0));
+        for (std::size_t far : {count + 256, count + 4096, count + 32768, std::size_t{65535}})
+            all.push_back(static_cast<std::uint16_t>(far));
+        return all;
+    }
+
+    model::Broken judged(bool sound, unsigned long every)
+    {
         model::Broken rule = check(every);
         sound_pools += sound;
         if ((rule.number == 0) != sound)
             fail("the model gives %u for %s pool of %zu slots", rule.number, sound ? "a sound" : "an unsound", n);
+        return rule;
     }
 
     // Hands the pool to the check and holds the number and the place against the model's. `every` n-th is held against the model's

@@ -191,7 +191,7 @@ private:
         same(what, "link", m.links.data(), before.links.data(), before.links.size());
         same(what, "value", m.values.data(), before.values.data(), before.values.size());
         same(what, "word of the book", reinterpret_cast<const std::uint16_t *>(&m.book),
-             reinterpret_cast<const std::uint16_t *>(&before.book), 34);
+             reinterpret_cast<const std::uint16_t *>(&before.book), model::book_words);
     }
 
     template <typename T>

@@ -5,15 +5,18 @@
 
 #include "damages.h"
 
-struct list { uint16_t head, tail, share, limit; };
-struct book { uint16_t lists; struct list list[8]; uint16_t free_head; };
+struct list { uint16_t head, tail, share, limit, length; };
+struct book { uint16_t lists; struct list list[8]; uint16_t free_head, free_count; };
 struct value { struct refusal refusal; uint64_t value; };
 
-_Static_assert(sizeof(struct book) == 34 * sizeof(uint16_t), "the book has 34 words and no padding");
+enum { WORDS = 43 }; // of the book
+_Static_assert(sizeof(struct book) == WORDS * sizeof(uint16_t), "the book has 43 words and no padding");
 _Static_assert(offsetof(struct book, list) == 2, "the entries follow the number of lists");
-_Static_assert(offsetof(struct book, free_head) == 66, "the free head is the last word");
+_Static_assert(offsetof(struct book, free_head) == 82, "the free head is the last word but one");
+_Static_assert(offsetof(struct book, free_count) == 84, "the free count is the last word");
 _Static_assert(offsetof(struct list, head) == 0 && offsetof(struct list, tail) == 2, "head, tail");
 _Static_assert(offsetof(struct list, share) == 4 && offsetof(struct list, limit) == 6, "share, limit");
+_Static_assert(offsetof(struct list, length) == 8 && sizeof(struct list) == 10, "the length is a list's fifth word and its last");
 _Static_assert(sizeof(struct refusal) == 6, "a refusal is three words");
 _Static_assert(offsetof(struct refusal, list) == 2 && offsetof(struct refusal, position) == 4, "number, list, position");
 _Static_assert(offsetof(struct value, value) == 8, "the value stands after the refusal");
@@ -52,20 +55,21 @@ struct step {
     uint64_t values[N];
     uint16_t ends[4];
     uint16_t free_head;
+    uint16_t counts[3]; // the lengths of lists 0 and 1, and the free slots
 };
 
 static const struct step course[] = {
-    { "P2", PUSH_BACK, 0, 20, 0, 0, { 0, 0, 3, 4, 5, 0 }, { 0, 20 }, { 1, 1, 0, 0 }, 2 },
-    { "P2", PUSH_BACK, 0, 30, 0, 0, { 0, 2, 1, 4, 5, 0 }, { 0, 20, 30 }, { 1, 2, 0, 0 }, 3 },
-    { "P2", PUSH_FRONT, 0, 10, 0, 0, { 0, 1, 1, 1, 5, 0 }, { 0, 20, 30, 10 }, { 3, 2, 0, 0 }, 4 },
-    { "P3", PUSH_BACK, 0, 40, 0, 0, { 0, 1, 5, 1, 2, 0 }, { 0, 20, 30, 10, 40 }, { 3, 4, 0, 0 }, 5 },
-    { "P4", PUSH_BACK, 0, 50, 7, 0, { 0, 1, 5, 1, 2, 0 }, { 0, 20, 30, 10, 40 }, { 3, 4, 0, 0 }, 5 },
-    { "P4, at the front", PUSH_FRONT, 0, 50, 7, 0, { 0, 1, 5, 1, 2, 0 }, { 0, 20, 30, 10, 40 }, { 3, 4, 0, 0 }, 5 },
-    { "P5", PUSH_BACK, 1, 60, 0, 0, { 0, 1, 5, 1, 2, 0 }, { 0, 20, 30, 10, 40, 60 }, { 3, 4, 5, 5 }, 0 },
-    { "P5", PUSH_BACK, 1, 61, 7, 0, { 0, 1, 5, 1, 2, 0 }, { 0, 20, 30, 10, 40, 60 }, { 3, 4, 5, 5 }, 0 },
-    { "P6", POP_FRONT, 0, 0, 0, 10, { 0, 2, 5, 0, 2, 0 }, { 0, 20, 30, 0, 40, 60 }, { 1, 4, 5, 5 }, 3 },
-    { "P7", PUSH_BACK, 1, 61, 0, 0, { 0, 2, 5, 5, 2, 3 }, { 0, 20, 30, 61, 40, 60 }, { 1, 4, 5, 3 }, 0 },
-    { "after P7", POP_BACK, 0, 0, 0, 40, { 0, 2, 1, 5, 0, 3 }, { 0, 20, 30, 61, 0, 60 }, { 1, 2, 5, 3 }, 4 },
+    { "P2", PUSH_BACK, 0, 20, 0, 0, { 0, 0, 3, 4, 5, 0 }, { 0, 20 }, { 1, 1, 0, 0 }, 2, { 1, 0, 4 } },
+    { "P2", PUSH_BACK, 0, 30, 0, 0, { 0, 2, 1, 4, 5, 0 }, { 0, 20, 30 }, { 1, 2, 0, 0 }, 3, { 2, 0, 3 } },
+    { "P2", PUSH_FRONT, 0, 10, 0, 0, { 0, 1, 1, 1, 5, 0 }, { 0, 20, 30, 10 }, { 3, 2, 0, 0 }, 4, { 3, 0, 2 } },
+    { "P3", PUSH_BACK, 0, 40, 0, 0, { 0, 1, 5, 1, 2, 0 }, { 0, 20, 30, 10, 40 }, { 3, 4, 0, 0 }, 5, { 4, 0, 1 } },
+    { "P4", PUSH_BACK, 0, 50, 7, 0, { 0, 1, 5, 1, 2, 0 }, { 0, 20, 30, 10, 40 }, { 3, 4, 0, 0 }, 5, { 4, 0, 1 } },
+    { "P4, at the front", PUSH_FRONT, 0, 50, 7, 0, { 0, 1, 5, 1, 2, 0 }, { 0, 20, 30, 10, 40 }, { 3, 4, 0, 0 }, 5, { 4, 0, 1 } },
+    { "P5", PUSH_BACK, 1, 60, 0, 0, { 0, 1, 5, 1, 2, 0 }, { 0, 20, 30, 10, 40, 60 }, { 3, 4, 5, 5 }, 0, { 4, 1, 0 } },
+    { "P5", PUSH_BACK, 1, 61, 7, 0, { 0, 1, 5, 1, 2, 0 }, { 0, 20, 30, 10, 40, 60 }, { 3, 4, 5, 5 }, 0, { 4, 1, 0 } },
+    { "P6", POP_FRONT, 0, 0, 0, 10, { 0, 2, 5, 0, 2, 0 }, { 0, 20, 30, 0, 40, 60 }, { 1, 4, 5, 5 }, 3, { 3, 1, 1 } },
+    { "P7", PUSH_BACK, 1, 61, 0, 0, { 0, 2, 5, 5, 2, 3 }, { 0, 20, 30, 61, 40, 60 }, { 1, 4, 5, 3 }, 0, { 3, 2, 0 } },
+    { "after P7", POP_BACK, 0, 0, 0, 40, { 0, 2, 1, 5, 0, 3 }, { 0, 20, 30, 61, 0, 60 }, { 1, 2, 5, 3 }, 4, { 2, 2, 1 } },
 };
 
 static int calls;
@@ -81,6 +85,7 @@ static struct memory fresh(size_t slots)
     for (uint16_t slot = 1; slot + 1u < slots; slot++)
         m.links[slot] = (uint16_t)(slot + 1);
     m.book.free_head = 1;
+    m.book.free_count = (uint16_t)(slots - 1);
     return m;
 }
 
@@ -88,8 +93,8 @@ static struct memory p1(void)
 {
     struct memory m = fresh(N);
     m.book.lists = 2;
-    m.book.list[0] = (struct list){ 0, 0, 2, 5 };
-    m.book.list[1] = (struct list){ 0, 0, 1, 3 };
+    m.book.list[0] = (struct list){ 0, 0, 2, 5, 0 };
+    m.book.list[1] = (struct list){ 0, 0, 1, 3, 0 };
     return m;
 }
 
@@ -126,10 +131,10 @@ static int differs(const char *pool, enum call call, const char *what, size_t at
 static int compare(const char *pool, enum call call, const struct memory *is, const struct memory *expected)
 {
     int bad = 0;
-    uint16_t words[34], right[34];
+    uint16_t words[WORDS], right[WORDS];
     memcpy(words, &is->book, sizeof words);
     memcpy(right, &expected->book, sizeof right);
-    for (size_t k = 0; k < 34; k++)
+    for (size_t k = 0; k < WORDS; k++)
         bad += differs(pool, call, "word of the book", k, words[k], right[k]);
     for (size_t k = 0; k < ROOM; k++) {
         bad += differs(pool, call, "link", k, is->links[k], expected->links[k]);
@@ -183,6 +188,9 @@ static int in_course(struct memory *m)
         right.book.list[1].head = s->ends[2];
         right.book.list[1].tail = s->ends[3];
         right.book.free_head = s->free_head;
+        right.book.list[0].length = s->counts[0];
+        right.book.list[1].length = s->counts[1];
+        right.book.free_count = s->counts[2];
         bad += answers(s->pool, s->call, run(m, N, s->call, s->list, s->value), s->number, s->given);
         bad += compare(s->pool, s->call, m, &right);
     }
@@ -275,6 +283,15 @@ static size_t lacks(const struct pool *p)
     return many;
 }
 
+// How many of the book's counts are not those of the calls that were done.
+static int counted(const struct pool *p, enum call call)
+{
+    int bad = differs("at random", call, "free count", 0, p->m.book.free_count, free_slots(p));
+    for (size_t k = 0; k < 8; k++)
+        bad += differs("at random", call, "length of list", k, p->m.book.list[k].length, p->length[k]);
+    return bad;
+}
+
 // The number that a call on a list that there is must give, by document 01.
 static uint16_t number_of(const struct pool *p, enum call call, uint16_t list)
 {
@@ -343,6 +360,7 @@ static int undo_at_random(void)
             const uint16_t list = (uint16_t)dice(p.m.book.lists);
             const uint16_t number = number_of(&p, call, list);
             bad += says("at random", call, make(&p, call, list, dice(0)).refusal, (struct refusal){ number, 0, 0 });
+            bad += counted(&p, call);
             bad += undone(&p, (unsigned)(dice(2) == 0 ? dice(8) : 0));
         }
     }
