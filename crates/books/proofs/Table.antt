@@ -21,9 +21,18 @@ table-at f m n table e i j p q =
 pub rows-tried : (mayGive 0 2 ≡ true) × (mayGive 0 3 ≡ false) × (mayGive 1 1 ≡ true) × (mayGive 1 2 ≡ false) × (mayGive 2 4 ≡ true) × (mayGive 2 5 ≡ false)
     × (mayGive 3 7 ≡ true) × (mayGive 3 5 ≡ false) × (mayGive 4 7 ≡ true) × (mayGive 4 5 ≡ false) × (mayGive 5 5 ≡ true) × (mayGive 5 6 ≡ false)
     × (mayGive 6 5 ≡ true) × (mayGive 6 6 ≡ false) × (mayGive 7 8 ≡ true) × (mayGive 7 5 ≡ false) × (mayGive 8 8 ≡ true) × (mayGive 8 5 ≡ false)
-    × (mayGive 9 4 ≡ true) × (mayGive 9 5 ≡ false)
+    × (mayGive 9 4 ≡ true) × (mayGive 9 5 ≡ false) × (mayGive 10 17 ≡ true) × (mayGive 10 5 ≡ false) × (mayGive 11 17 ≡ true) × (mayGive 11 5 ≡ false)
+    × (mayGive 12 17 ≡ true) × (mayGive 12 6 ≡ false) × (mayGive 13 17 ≡ true) × (mayGive 13 6 ≡ false)
 unfolding mayGive
-rows-tried = (refl, refl, refl, refl, refl, refl, refl, refl, refl, refl, refl, refl, refl, refl, refl, refl, refl, refl, refl, refl)
+rows-tried = (refl, refl, refl, refl, refl, refl, refl, refl, refl, refl, refl, refl, refl, refl, refl, refl, refl, refl, refl, refl, refl, refl, refl, refl, refl, refl, refl, refl)
+
+-- of each of these numbers who gives it: 3 nobody; 9 and 16 the nine calls that check the pool first; 17 the four quick calls, which give neither of the two
+pub columns-tried : (tabulate 14 (λ call. mayGive call 3) ≡ false ∷ false ∷ false ∷ false ∷ false ∷ false ∷ false ∷ false ∷ false ∷ false ∷ false ∷ false ∷ false ∷ false ∷ [])
+    × (tabulate 14 (λ call. mayGive call 9) ≡ false ∷ true ∷ true ∷ true ∷ true ∷ true ∷ true ∷ true ∷ true ∷ true ∷ false ∷ false ∷ false ∷ false ∷ [])
+    × (tabulate 14 (λ call. mayGive call 16) ≡ false ∷ true ∷ true ∷ true ∷ true ∷ true ∷ true ∷ true ∷ true ∷ true ∷ false ∷ false ∷ false ∷ false ∷ [])
+    × (tabulate 14 (λ call. mayGive call 17) ≡ false ∷ false ∷ false ∷ false ∷ false ∷ false ∷ false ∷ false ∷ false ∷ false ∷ true ∷ true ∷ true ∷ true ∷ [])
+unfolding mayGive tabulate
+columns-tried = (refl, refl, refl, refl)
 
 -- ---- past the table
 
@@ -47,12 +56,12 @@ row-below n [] i h = refl
 row-below n (r ∷ rs) zero h = and-both (all-below n r) (rows-below n rs) h .0
 row-below n (r ∷ rs) (suc i) h = row-below n rs i (and-both (all-below n r) (rows-below n rs) h .1)
 
--- no call gives 17 or more
-pub no-number : (call number : ℕ) → 17 ≤ number → mayGive call number ≡ false
+-- no call gives 18 or more
+pub no-number : (call number : ℕ) → 18 ≤ number → mayGive call number ≡ false
 unfolding mayGive
-no-number call number p = not-among 17 (getD rows call []) number (row-below 17 rows call refl) p
+no-number call number p = not-among 18 (getD rows call []) number (row-below 18 rows call refl) p
 
--- there is no call number 10 or more
-pub no-call : (call number : ℕ) → 10 ≤ call → mayGive call number ≡ false
+-- there is no call number 14 or more
+pub no-call : (call number : ℕ) → 14 ≤ call → mayGive call number ≡ false
 unfolding mayGive
 no-call call number p = rw (List·getD-eq-default rows [] p)
