@@ -1,23 +1,23 @@
-// The text of every number from 0 to 16, and of two numbers that this version does not know, each on a line after its number.
+// The text of every number from 0 to 17, and of two numbers that this version does not know, each on a line after its number.
 ghost use Prim.Native.Nat.{_+_, _≤_};
 ghost use lib.ListN.{length};
 ghost use Rattle.wording.specs.Digits.{Written};
 ghost use Rattle.wording.specs.Notices.{noticeOf, allNotices};
 
 fn main() {
-    let mut out = [0u8; 1700];
+    let mut out = [0u8; 1800];
     let count = all(&mut out);
     io::write_all(libc::STDOUT_FILENO, &out[..count]);
 }
 
-// The lines of 0 to 17 and of the largest number. Answers how many bytes they have.
+// The lines of 0 to 18 and of the largest number. Answers how many bytes they have.
 fn all(out: &mut [u8]) -> usize
-    requires { ⌜ 1700 ≤ length (now out) ⌝ }
+    requires { ⌜ 1800 ≤ length (now out) ⌝ }
     ensures { λ r. ⌜ Written allNotices (now (out .entry)) 0 r (now (out .exit)) ⌝ }
 {
     let mut at: usize = 0;
     let mut number: u16 = 0;
-    while number < 18 {
+    while number < 19 {
         at += notice(out, at, number);
         number += 1;
     }

@@ -1,4 +1,5 @@
 // One short text for each number that a call answers with, written into a buffer that the caller lends.
+ghost use Prim.Native.Nat.{_<_};
 ghost use Rattle.wording.specs.Digits.{Written};
 ghost use Rattle.wording.specs.Texts.{textOf};
 
@@ -25,6 +26,16 @@ pub fn write(out: &mut [u8], at: usize, number: u16) -> usize
         6 => put(out, at, b"the list is at its limit"),
         7 => put(out, at, b"no slot is free but those kept for other lists"),
         8 => put(out, at, b"the buffer is too small"),
+        9..=65535 => write_fault(out, at, number),
+    }
+}
+
+// As `write`, of the numbers from 9 on: what is wrong with the pool or its book, and the text of a number that this version does not know.
+fn write_fault(out: &mut [u8], at: usize, number: u16) -> usize
+    requires { ⌜ 8 < number ⌝ }
+    ensures { λ r. ⌜ Written (textOf number) (now (out .entry)) at r (now (out .exit)) ⌝ }
+{
+    match number {
         9 => put(
             out,
             at,
@@ -41,7 +52,8 @@ pub fn write(out: &mut [u8], at: usize, number: u16) -> usize
             b"a list is over its limit, or the shares are not covered",
         ),
         16 => put(out, at, b"a stored count is wrong"),
-        17..=65535 => put(out, at, b"this version does not know the number"),
+        17 => put(out, at, b"a quick call cannot trust the book or a slot"),
+        _ => put(out, at, b"this version does not know the number"),
     }
 }
 

@@ -33,9 +33,10 @@ pub notices-tried : (noticeOf 0 ≡ spelled "0: done\n")
     × (noticeOf 14 ≡ spelled "14: a free slot is not wiped\n")
     × (noticeOf 15 ≡ spelled "15: a list is over its limit, or the shares are not covered\n")
     × (noticeOf 16 ≡ spelled "16: a stored count is wrong\n")
-    × (noticeOf 17 ≡ spelled "17: this version does not know the number\n")
+    × (noticeOf 17 ≡ spelled "17: a quick call cannot trust the book or a slot\n")
+    × (noticeOf 18 ≡ spelled "18: this version does not know the number\n")
 unfolding noticeOf textOf digitsOn
-notices-tried = (refl, refl, refl, refl, refl, refl, refl, refl, refl, refl, refl, refl, refl, refl, refl, refl, refl, refl)
+notices-tried = (refl, refl, refl, refl, refl, refl, refl, refl, refl, refl, refl, refl, refl, refl, refl, refl, refl, refl, refl)
 
 module _ (number : ℕ) (small : number < 2 ^ 16) where
   few : length (bytesOf number) ≤ 20
@@ -67,7 +68,7 @@ module _ (number : ℕ) (small : number < 2 ^ 16) where
 
 -- ---- the lines
 
-below-size : (n : ℕ) → n ≤ 18 → length (noticesBelow n) ≤ 87 * n
+below-size : (n : ℕ) → n ≤ 19 → length (noticesBelow n) ≤ 87 * n
 unfolding noticesBelow
 below-size zero h = omega arith
 below-size (suc n) h = omega (arith, length-append (noticesBelow n) (noticeOf n), notice-size n (omega arith), below-size n (omega arith))
@@ -77,17 +78,17 @@ unfolding noticesBelow
 none-in before = record { fits = λ l. (refl, refl); short = λ l. absurd (omega arith) }
 
 -- one line more, of any number
-more : (n k : ℕ) → n ≤ 18 → k < 2 ^ 16 → {before : List ℕ} {at m : ℕ} {mid after : List ℕ} → 1700 ≤ length before
+more : (n k : ℕ) → n ≤ 19 → k < 2 ^ 16 → {before : List ℕ} {at m : ℕ} {mid after : List ℕ} → 1800 ≤ length before
     → Written (noticesBelow n) before 0 at mid → Written (noticeOf k) mid at m after → Written (noticesBelow n ++ noticeOf k) before 0 (at + m) after
 more n k h s {before} {at} {m} {mid} {after} room W U =
     both-in (noticesBelow n) (noticeOf k) before 0 (omega (arith, below-size n h, notice-size k s)) W (subst (λ p. Written (noticeOf k) mid p m after) (sym (zero-add at)) U)
 
-pub next-in : (n : ℕ) → n < 18 → {before : List ℕ} {at m : ℕ} {mid after : List ℕ} → 1700 ≤ length before
+pub next-in : (n : ℕ) → n < 19 → {before : List ℕ} {at m : ℕ} {mid after : List ℕ} → 1800 ≤ length before
     → Written (noticesBelow n) before 0 at mid → Written (noticeOf n) mid at m after → Written (noticesBelow (n + 1)) before 0 (at + m) after
 unfolding noticesBelow
 next-in n h room W U = rw add-one (more n n (omega arith) (omega arith) room W U)
 
-pub last-notice-in : {before : List ℕ} {at m : ℕ} {mid after : List ℕ} → 1700 ≤ length before
-    → Written (noticesBelow 18) before 0 at mid → Written (noticeOf 65535) mid at m after → Written allNotices before 0 (at + m) after
+pub last-notice-in : {before : List ℕ} {at m : ℕ} {mid after : List ℕ} → 1800 ≤ length before
+    → Written (noticesBelow 19) before 0 at mid → Written (noticeOf 65535) mid at m after → Written allNotices before 0 (at + m) after
 unfolding allNotices
-last-notice-in = more 18 65535 (omega arith) (omega arith)
+last-notice-in = more 19 65535 (omega arith) (omega arith)

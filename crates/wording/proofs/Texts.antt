@@ -67,8 +67,8 @@ module _ (n : ℕ) where
   pub room-enough : {before : List ℕ} {at r : ℕ} {after : List ℕ} → Written (textOf n) before at r after → at + mostBytes ≤ length before → r ≡ length (textOf n)
   room-enough W h = W .fits (omega (arith, no-longer)) .0
 
--- every number above 16 has the one text
-pub above-known : (n : ℕ) → 16 < n → textOf n ≡ unknown
+-- every number above 17 has the one text
+pub above-known : (n : ℕ) → 17 < n → textOf n ≡ unknown
 unfolding textOf
 above-known n h = List·getD-eq-default known unknown h
 
@@ -109,15 +109,15 @@ one-place d (t ∷ ts) h (suc i) (suc j) l m e =
     let k = one-place d ts (both (every (differs t) ts) (apart ts) h .1) i j (omega arith) (omega arith) e in
     omega arith
 
--- the seventeen, and after them the one for every other number
-place : (n : ℕ) → n ≤ 17 → getD (known ++ unknown ∷ []) n unknown ≡ textOf n
+-- the eighteen, and after them the one for every other number
+place : (n : ℕ) → n ≤ 18 → getD (known ++ unknown ∷ []) n unknown ≡ textOf n
 unfolding textOf
-place n h = go (decLe 17 n)
+place n h = go (decLe 18 n)
   where
-    go : Dec (17 ≤ n) → getD (known ++ unknown ∷ []) n unknown ≡ textOf n
-    go (yes l) = let e : n ≡ 17 = omega arith in rw e
+    go : Dec (18 ≤ n) → getD (known ++ unknown ∷ []) n unknown ≡ textOf n
+    go (yes l) = let e : n ≡ 18 = omega arith in rw e
     go (no l) = List·getD-append known (unknown ∷ []) unknown n (omega arith)
 
--- no two of 0 to 16 have the same text, and none has the text of the numbers above, of which 17 is one
-pub texts-differ : (m n : ℕ) → m ≤ 17 → n ≤ 17 → textOf m ≡ textOf n → m ≡ n
+-- no two of 0 to 17 have the same text, and none has the text of the numbers above, of which 18 is one
+pub texts-differ : (m n : ℕ) → m ≤ 18 → n ≤ 18 → textOf m ≡ textOf n → m ≡ n
 texts-differ m n p q e = one-place unknown (known ++ unknown ∷ []) tt m n (omega arith) (omega arith) (place m p ∙ e ∙ sym (place n q))

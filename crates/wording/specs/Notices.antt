@@ -18,4 +18,4 @@ noticesBelow (suc n) = noticesBelow n ++ noticeOf n
 
 -- every number that a call gives, and two that none gives: the next, and the largest of 16 bits
 unfoldable pub allNotices : List ℕ
-allNotices = noticesBelow 18 ++ noticeOf 65535
+allNotices = noticesBelow 19 ++ noticeOf 65535

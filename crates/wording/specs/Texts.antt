@@ -10,7 +10,7 @@ abbrev pub spelled : String → List ℕ
 spelled no-more = []
 spelled (c then s) = code c ∷ spelled s
 
--- the texts for 0 to 16, in this order
+-- the texts for 0 to 17, in this order
 abbrev pub known : List (List ℕ)
 known =
     spelled "done"
@@ -30,6 +30,7 @@ known =
     ∷ spelled "a free slot is not wiped"
     ∷ spelled "a list is over its limit, or the shares are not covered"
     ∷ spelled "a stored count is wrong"
+    ∷ spelled "a quick call cannot trust the book or a slot"
     ∷ []
 
 -- the text for every other number

@@ -13,10 +13,10 @@ use Rattle.notices.proofs.all.Statement.{statement}
 use Rattle.notices.proofs.all.Tie as tie
 
 abbrev Inv-loop : tie.InvT-loop
-Inv-loop out₀ at₀ number₀ out at number = Written (noticesBelow number) out₀ 0 at out × (number ≤ 18) × (at ≤ 87 * number) × (length out ≡ length out₀)
+Inv-loop out₀ at₀ number₀ out at number = Written (noticesBelow number) out₀ 0 at out × (number ≤ 19) × (at ≤ 87 * number) × (length out ≡ length out₀)
 
 abbrev μ-loop : tie.MeasureT-loop
-μ-loop out₀ at₀ number₀ out at number = 18 - number
+μ-loop out₀ at₀ number₀ out at number = 19 - number
 
 loop-holds : tie.Need-loop-holds Inv-loop μ-loop
 loop-holds c = (none-in (now (c .before .args .out)), search needs, search needs, search needs)
@@ -40,7 +40,7 @@ add-result c = omega (arith, at-most-bytes (c .before .before .notice2 .ensures)
 returns : tie.Need-returns Inv-loop μ-loop
 returns c =
     let l = c .before .before .before .before .before .loop in
-    let e : l .number ≡ 18 = omega arith in
+    let e : l .number ≡ 19 = omega arith in
     last-notice-in (search needs) (subst (λ n. Written (noticesBelow n) (now (c .before .before .before .before .before .before .before .args .out)) 0 (l .at) (l .out)) e (l .inv .0)) (c .before .before .notice2 .ensures)
 
 pub all-spec : {M : Type 1} → statement M

@@ -1,9 +1,12 @@
--- `texts::write`: each arm puts the text of its number, and the range the text of every number above 16.
+-- `texts::write`: each arm puts the text of its number, and the range hands on every number above 8.
 use borrow.Author.Needs.{needs}
 use Rattle.wording.specs.Texts.{textOf}
-use Rattle.texts.proofs.Choice.{chosen, past, by-default}
+use Rattle.texts.proofs.Choice.{chosen, past}
 use Rattle.texts.proofs.write.Statement.{statement}
 use Rattle.texts.proofs.write.Tie as tie
+
+write-fault-requires : tie.Need-write-fault-requires
+write-fault-requires c κs = past 0 9 _ (search needs) (c .before .match .rest)
 
 returns : tie.Need-returns
 unfolding textOf
@@ -42,39 +45,7 @@ unfolding textOf
 returns-9 c = chosen 8 (c .before .before .before .before .before .match .keys9) (c .before .before .put9 .ensures)
 
 returns-10 : tie.Need-returns-10
-unfolding textOf
-returns-10 c = chosen 9 (c .before .before .before .before .before .match .keys10) (c .before .before .put10 .ensures)
-
-returns-11 : tie.Need-returns-11
-unfolding textOf
-returns-11 c = chosen 10 (c .before .before .before .before .before .match .keys11) (c .before .before .put11 .ensures)
-
-returns-12 : tie.Need-returns-12
-unfolding textOf
-returns-12 c = chosen 11 (c .before .before .before .before .before .match .keys12) (c .before .before .put12 .ensures)
-
-returns-13 : tie.Need-returns-13
-unfolding textOf
-returns-13 c = chosen 12 (c .before .before .before .before .before .match .keys13) (c .before .before .put13 .ensures)
-
-returns-14 : tie.Need-returns-14
-unfolding textOf
-returns-14 c = chosen 13 (c .before .before .before .before .before .match .keys14) (c .before .before .put14 .ensures)
-
-returns-15 : tie.Need-returns-15
-unfolding textOf
-returns-15 c = chosen 14 (c .before .before .before .before .before .match .keys15) (c .before .before .put15 .ensures)
-
-returns-16 : tie.Need-returns-16
-unfolding textOf
-returns-16 c = chosen 15 (c .before .before .before .before .before .match .keys16) (c .before .before .put16 .ensures)
-
-returns-17 : tie.Need-returns-17
-unfolding textOf
-returns-17 c = chosen 16 (c .before .before .before .before .before .match .keys17) (c .before .before .put17 .ensures)
-
-returns-18 : tie.Need-returns-18
-returns-18 c = by-default (past 17 _ (c .before .before .before .before .before .match .rest)) (c .before .before .put18 .ensures)
+returns-10 c = search needs
 
 pub write-spec : {M : Type 1} → statement M
 write-spec =
@@ -98,24 +69,7 @@ write-spec =
     (λ c. search needs)
     (λ c. search needs)
     (λ c. search needs)
-    (λ c. search needs)
-    (λ c. search needs)
-    (λ c. search needs)
-    (λ c. search needs)
-    (λ c. search needs)
-    (λ c. search needs)
-    (λ c. search needs)
-    (λ c. search needs)
-    (λ c. search needs)
-    (λ c. search needs)
-    (λ c. search needs)
-    (λ c. search needs)
-    (λ c. search needs)
-    (λ c. search needs)
-    (λ c. search needs)
-    (λ c. search needs)
-    (λ c. search needs)
-    (λ c. search needs)
+    write-fault-requires
     (λ c. search needs)
     returns
     (λ c. search needs)
@@ -135,20 +89,4 @@ write-spec =
     (λ c. search needs)
     returns-9
     (λ c. search needs)
-    returns-10
-    (λ c. search needs)
-    returns-11
-    (λ c. search needs)
-    returns-12
-    (λ c. search needs)
-    returns-13
-    (λ c. search needs)
-    returns-14
-    (λ c. search needs)
-    returns-15
-    (λ c. search needs)
-    returns-16
-    (λ c. search needs)
-    returns-17
-    (λ c. search needs)
-    returns-18)
+    returns-10)
