@@ -6,12 +6,12 @@ use lib.Dec.{eqb}
 use lib.ListN.{replicate}
 use Rattle.books.specs.declared.Book.{Book}
 use Rattle.books.specs.declared.Refusal.{Refusal}
-use Rattle.books.specs.Book.{wordsOf}
 use Rattle.books.specs.Place.{refusalOf, numbered}
-use Rattle.books.specs.Tried.{sameNumbers, entry, none}
+use Rattle.books.specs.Tried.{entry, none}
 use Rattle.engines.specs.Edges.{broken, sameRefusal}
 use Rattle.xor.specs.Ten.{setupOf, popBackOf, popFrontOf}
 use Rattle.xor.specs.Moves.{Pool, poolLeft, numberGiven, placeNamed, poolAfter}
+use Rattle.xor.specs.QuickTried.{samePool}
 use Rattle.shapes.specs.Moves.{Move, check, askLength, pushBack, pushFront, popBack, popFront, readForward, readBackward, clear}
 
 -- a call, and what it must give: the number with its place, the value handed out, 0 for none, and every cell and word afterwards
@@ -142,9 +142,6 @@ valueGiven st (popFront l) = popFrontOf (st .links) (st .values) (st .book) l .a
 valueGiven st (readForward l buffer at) = 0
 valueGiven st (readBackward l buffer at) = 0
 valueGiven st (clear l) = 0
-
-abbrev pub samePool : Pool → Pool → Bool
-samePool s t = sameNumbers (s .links) (t .links) && (sameNumbers (s .values) (t .values) && sameNumbers (wordsOf (s .book)) (wordsOf (t .book)))
 
 -- each call gives what it must, on what the one before it left
 abbrev pub turnsPass : Pool → List Turn → Bool

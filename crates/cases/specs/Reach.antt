@@ -6,9 +6,9 @@ use lib.Dec.{eqb}
 use lib.ListN.{replicate, take}
 use Rattle.books.specs.Table.{mayGive}
 use Rattle.xor.specs.Ten.{setupOf}
-use Rattle.engines.specs.Rows.{rowOf}
-use Rattle.xor.specs.Moves.{Pool, numberGiven, PoolTrace}
-use Rattle.shapes.specs.Moves.{Move, check, askLength, pushBack, pushFront, popBack, popFront, readForward, readBackward, clear}
+use Rattle.engines.specs.Rows.{rowOf, quickRowOf}
+use Rattle.xor.specs.Moves.{Pool, numberGiven, quickGiven, PoolTrace}
+use Rattle.shapes.specs.Moves.{Move, check, askLength, pushBack, pushFront, popBack, popFront, readForward, readBackward, clear, QuickMove, quickPushBack, quickPushFront, quickPopBack, quickPopFront}
 use Rattle.shapes.specs.Ledger.{Ledger}
 use Rattle.cases.specs.Cases.{twoLists, oneList, p1, p3, p9}
 
@@ -31,6 +31,9 @@ full = record { links = 0 ∷ 2 ∷ 2 ∷ 2 ∷ 5 ∷ 0 ∷ []; values = 0 ∷ 1
 abbrev given : Pool → Move → Gives
 given st m = gives (rowOf m) (numberGiven st m)
 
+abbrev quickly : Pool → QuickMove → Gives
+quickly st q = gives (quickRowOf q) (quickGiven st q)
+
 -- setup of N cells each for L lists, with the shares and limits of 01's pools
 abbrev setUpWith : ℕ → ℕ → ℕ → Gives
 setUpWith n m lists = gives 0 (setupOf (replicate n 0) (replicate m 0) lists (2 ∷ 1 ∷ replicate 6 0) (5 ∷ 3 ∷ replicate 6 0) .answer .refusal .number)
@@ -51,6 +54,19 @@ brokenPools =
 -- 1, 9 to 16 and 4 of a call on list l: on a pool with a cell missing, on these, and on P3's with a list that there is not
 abbrev refusals : (ℕ → Move) → List Gives
 refusals call = given uneven (call 0) ∷ given p3 (call 2) ∷ map (λ st. given st (call 0)) brokenPools
+
+-- P3 with L = 9, a free head past the pool, a tail past it, and a free count of N
+abbrev strange : List Pool
+strange =
+    record { links = p3 .links; values = p3 .values; book = record { lists = 9; entries = p3 .book .entries; free = p3 .book .free } }
+    ∷ record { links = p3 .links; values = p3 .values; book = twoLists 3 4 4 0 0 0 6 2 }
+    ∷ record { links = p3 .links; values = p3 .values; book = twoLists 6 6 4 0 0 0 5 2 }
+    ∷ record { links = p3 .links; values = p3 .values; book = twoLists 3 4 4 0 0 0 5 6 }
+    ∷ []
+
+-- 02 d): the same of a quick call: 1, 4, 17, and what it gives on the pools for 9 to 16, which is none of these. "A quick call gives none of 9 to 16"
+abbrev quickRefusals : (ℕ → QuickMove) → List Gives
+quickRefusals call = quickly uneven (call 0) ∷ quickly p3 (call 2) ∷ map (λ st. quickly st (call 0)) strange ++ map (λ st. quickly st (call 0)) brokenPools
 
 abbrev pub numbersTried : List Gives
 numbersTried =
@@ -84,6 +100,20 @@ numbersTried =
     ++ refusals (λ l. readBackward l (replicate 5 0) 0)
     ++ refusals clear
     ++ map (λ st. given st check) brokenPools
+    ++ quickly p1 (quickPushBack 0 20)
+    ∷ quickly full (quickPushBack 1 14)
+    ∷ quickly p3 (quickPushBack 0 50)
+    ∷ quickly p1 (quickPushFront 0 20)
+    ∷ quickly full (quickPushFront 1 14)
+    ∷ quickly p3 (quickPushFront 0 50)
+    ∷ quickly p3 (quickPopBack 0)
+    ∷ quickly p3 (quickPopBack 1)
+    ∷ quickly p3 (quickPopFront 0)
+    ∷ quickly p3 (quickPopFront 1)
+    ∷ quickRefusals (λ l. quickPushBack l 5)
+    ++ quickRefusals (λ l. quickPushFront l 5)
+    ++ quickRefusals quickPopBack
+    ++ quickRefusals quickPopFront
 
 -- is the call shown to give the number?
 abbrev pub isShown : ℕ → ℕ → List Gives → Bool
@@ -100,7 +130,7 @@ numbersShown call (suc n) gs = same (mayGive call n) (isShown call n gs) && numb
 
 abbrev pub callsShown : ℕ → List Gives → Bool
 callsShown zero gs = true
-callsShown (suc m) gs = numbersShown m 17 gs && callsShown m gs
+callsShown (suc m) gs = numbersShown m 18 gs && callsShown m gs
 
 -- a trace of two lists, with the shares and limits of 01's pools
 abbrev pub twoListTrace : Pool → Ledger → Type 0

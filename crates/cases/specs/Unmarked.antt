@@ -12,8 +12,9 @@ use Rattle.shapes.specs.Moves.{askLength, pushBack, pushFront, popBack, popFron
 use Rattle.shapes.specs.Tests.{ReadLeft}
 use Rattle.xor.specs.Ten.{setupOf, readForwardOf, readBackwardOf}
 use Rattle.xor.specs.Moves.{Pool, poolLeft}
+use Rattle.xor.specs.QuickTried.{samePool}
 use Rattle.books.specs.Place.{numbered}
-use Rattle.cases.specs.Cases.{Case, with, bySetup, oneList, p1, p3, samePool}
+use Rattle.cases.specs.Cases.{Case, with, bySetup, oneList, p1, p3}
 
 -- ---- setup
 

@@ -27,6 +27,8 @@ pub mod Stored
 pub mod Outcomes
 pub mod Looking
 pub mod OnList
+pub mod QuickGiven
+pub mod QuickSound
 pub mod Exactly
 pub mod Book
 pub mod Tight
@@ -45,5 +47,6 @@ pub mod Named
 -- the computed cases
 pub mod Edges
 pub mod Turns
+pub mod QuickLeft
 pub mod Places
 pub mod Wiped

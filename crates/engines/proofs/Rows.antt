@@ -13,15 +13,17 @@ use Rattle.shapes.specs.declared.Fault.{Fault}
 use Rattle.shapes.specs.Shape.{storedLacks}
 use Rattle.shapes.specs.Numbers.{Test, test, firstThat}
 use Rattle.shapes.specs.Tests.{pushOwnTests, popOwnTests, readOwnTests}
-use Rattle.shapes.specs.Moves.{Move, check, askLength, pushBack, pushFront, popBack, popFront, readForward, readBackward, clear}
+use Rattle.shapes.specs.Moves.{Move, check, askLength, pushBack, pushFront, popBack, popFront, readForward, readBackward, clear, QuickMove, quickPushBack, quickPushFront, quickPopBack, quickPopFront}
 use Rattle.engines.specs.Engine.{Engine}
 use Rattle.engines.specs.Check.{sizesFit, checkFound}
 use Rattle.engines.specs.Calls.{setupTests, checkTests, foundOf}
-use Rattle.engines.specs.Moves.{State, numberOf}
-use Rattle.engines.specs.Rows.{rowOf, EveryRow}
+use Rattle.engines.specs.Moves.{State, numberOf, quickCalled}
+use Rattle.engines.specs.Quick.{quickPushTests, quickPopTests}
+use Rattle.engines.specs.Rows.{rowOf, quickRowOf, EveryRow}
 use Rattle.engines.proofs.Fresh.{setup-number}
 use Rattle.engines.proofs.Ruled.{KnownFault, known-0, known-9, known-10, known-11, known-12, known-13, known-14, known-15, known-16, known-fault}
 use Rattle.engines.proofs.When.{check-number, length-number, push-number, pop-number, clear-number, read-number}
+use Rattle.engines.proofs.QuickGiven.{quick-push-number, quick-pop-number}
 
 -- the row has the number of each test, and 0
 abbrev all-give : ℕ → List Test → Bool
@@ -90,10 +92,19 @@ nine-rows E st (readForward l buffer at) = checked 7 E st (own-read E st l buffe
 nine-rows E st (readBackward l buffer at) = checked 8 E st (own-read E st l buffer at) (read-number E (st .links) (st .values) (st .book) l Back buffer at) refl (rule-in (known-fault E (st .links) (st .values) (st .book)) .7) refl
 nine-rows E st (clear l) = checked 9 E st (four-then E st l []) (clear-number E (st .links) (st .values) (st .book) l) refl (rule-in (known-fault E (st .links) (st .values) (st .book)) .8) refl
 
+-- each of the four quick ones
+four-rows : (E : Engine) (st : State E) (q : QuickMove) → mayGive (quickRowOf q) (quickCalled E st q .number) ≡ true
+unfolding mayGive
+four-rows E st (quickPushBack l value) = numbered 10 (quickPushTests E (st .links) (st .values) (st .book) l Back value) (quick-push-number E (st .links) (st .values) (st .book) l Back value) refl
+four-rows E st (quickPushFront l value) = numbered 11 (quickPushTests E (st .links) (st .values) (st .book) l Front value) (quick-push-number E (st .links) (st .values) (st .book) l Front value) refl
+four-rows E st (quickPopBack l) = numbered 12 (quickPopTests E (st .links) (st .values) (st .book) l Back) (quick-pop-number E (st .links) (st .values) (st .book) l Back) refl
+four-rows E st (quickPopFront l) = numbered 13 (quickPopTests E (st .links) (st .values) (st .book) l Front) (quick-pop-number E (st .links) (st .values) (st .book) l Front) refl
+
 pub every-row : (E : Engine) → EveryRow E
 unfolding mayGive
 every-row E =
     record {
       setup = λ places links values lists shares limits. numbered 0 (setupTests E places links values lists shares limits) (setup-number E places links values lists shares limits) refl;
       nine = nine-rows E;
+      four = four-rows E;
     }

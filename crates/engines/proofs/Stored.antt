@@ -25,7 +25,7 @@ use Rattle.engines.proofs.Found.{stored-length, stored-free, stored-lac
 use Rattle.engines.proofs.When.{no-room-left, list-gives, push-number, pop-number, read-number}
 
 -- three tests in turn
-all-three : (x y z : Bool) {A B C : Type 0} → x ≡ true ↔ A → y ≡ true ↔ B → z ≡ true ↔ C → (x && (y && z)) ≡ true ↔ (A × B × C)
+pub all-three : (x y z : Bool) {A B C : Type 0} → x ≡ true ↔ A → y ≡ true ↔ B → z ≡ true ↔ C → (x && (y && z)) ≡ true ↔ (A × B × C)
 all-three x y z a b c = (
   λ h. let (p, qr) = and-both x (y && z) h in let (q, r) = and-both y z qr in (a .0 p, b .0 q, c .0 r),
   λ (p, q, r). both-and x (y && z) (a .1 p) (both-and y z (b .1 q) (c .1 r)),

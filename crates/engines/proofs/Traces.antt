@@ -1,4 +1,4 @@
--- Demand 3 holds at every point of a trace, on any engine: after an accepted setup and any of the other nine calls. One law is for both ends.
+-- Demand 3 holds at every point of a trace, on any engine: after an accepted setup and any of the other nine calls and of the quick ones. One law is for both ends.
 use mathlib.Core.Path.{_≡_, refl, sym, ap, subst, _∙_}
 use mathlib.Core.Logic.{_↔_, _≢_, inl}
 use mathlib.Core.Bool.{cond}
@@ -22,21 +22,22 @@ use Rattle.shapes.proofs.Ends.{length-joined}
 use Rattle.shapes.specs.Setup.{addedUp, freshShape}
 use Rattle.shapes.proofs.Shape.{joined-length}
 use Rattle.shapes.specs.Changes.{OtherEntries, OtherLists}
-use Rattle.shapes.specs.Moves.{Move, check, askLength, pushBack, pushFront, popBack, popFront, readForward, readBackward, clear}
+use Rattle.shapes.specs.Moves.{Move, check, askLength, pushBack, pushFront, popBack, popFront, readForward, readBackward, clear, QuickMove, quickPushBack, quickPushFront, Call, moveOf, checkedOf}
 use Rattle.engines.specs.Engine.{Engine}
 use Rattle.engines.specs.Sound.{SoundBook}
 use Rattle.engines.specs.Laws.{Lawful}
 use Rattle.engines.specs.Calls.{Called, setupCall, clearCall}
-use Rattle.engines.specs.Moves.{State, left, numberOf, after}
+use Rattle.engines.specs.Moves.{State, left, numberOf, after, quickCalled, afterCall}
 use Rattle.shapes.specs.Ledger.{Ledger, nothingNoted, oneMore, noneAt, heldAt, notedDone}
 use Rattle.shapes.proofs.Ledger.{more-here, more-other, none-here, none-other, held-here, held-other, without, without-joined}
-use Rattle.engines.specs.Trace.{othersLack, noted, Trace, begins, goesOn, Demand3}
+use Rattle.engines.specs.Trace.{othersLack, noted, EachPush, Trace, begins, goesOn, Demand3}
 use Rattle.engines.proofs.Shape.{unique-book}
 use Rattle.engines.proofs.Found.{listed, entry-is, within, stored-length, stored-free, all-slots}
 use Rattle.engines.proofs.Fresh.{setup-keeps}
 use Rattle.engines.proofs.When.{check-given, length-given, push-given, pop-given, clear-given, read-given}
 use Rattle.engines.proofs.Outcomes.{push-done, pop-done, clear-done}
 use Rattle.engines.proofs.Exactly.{not-broken, push-six, push-seven, push-zero}
+use Rattle.engines.proofs.QuickSound.{quick-as-checked, call-as-move}
 use Rattle.engines.proofs.After.{pushAt, popAt, refused-state}
 
 -- ---- what the lists lack
@@ -154,12 +155,22 @@ module _ {E : Engine} (L : Lawful E) (places lists : ℕ) (shares limits : List 
     done-kept (clear l) z = cleared l z
 
     -- done or refused
-    kept : (m : Move) → (t : Shape) × Kept E places lists shares limits (after E st m) (noted E st m ledger) t
-    kept m = go (ℕ-discrete (numberOf E st m) 0)
+    kept-by : (m : Move) → (t : Shape) × Kept E places lists shares limits (after E st m) (cond (eqb (numberOf E st m) 0) (notedDone m ledger) ledger) t
+    kept-by m = go (ℕ-discrete (numberOf E st m) 0)
       where
         go : Dec (numberOf E st m ≡ 0) → (t : Shape) × Kept E places lists shares limits (after E st m) (cond (eqb (numberOf E st m) 0) (notedDone m ledger) ledger) t
         go (yes z) = rw (eq-eqb (numberOf E st m) 0 z) (done-kept m z)
         go (no z) = rw (ne-eqb (numberOf E st m) 0 z) (s, subst (λ (x : State E). Kept E places lists shares limits x ledger s) (sym (refused-state E st m z)) K)
+
+    -- checked or quick: the pool is sound, so that a quick call is the checked one
+    kept : (c : Call) → (t : Shape) × Kept E places lists shares limits (afterCall E st c) (noted E st c ledger) t
+    kept c =
+        let (n, a) = call-as-move L (K .sound) c in
+        let (t, J) = kept-by (moveOf c) in (
+          t,
+          subst (λ (x : State E). Kept E places lists shares limits x (noted E st c ledger) t) (sym a)
+              (subst (λ (k : ℕ). Kept E places lists shares limits (after E st (moveOf c)) (cond (eqb k 0) (notedDone (moveOf c) ledger) ledger) t) (sym n) J),
+        )
 
   trace-kept : {st : State E} {ledger : Ledger} → Trace E places lists shares limits st ledger → (s : Shape) × Kept E places lists shares limits st ledger s
   trace-kept (begins links values z) =
@@ -193,6 +204,13 @@ module _ {E : Engine} (L : Lawful E) (places lists : ℕ) (shares limits : List 
     unsaid (readForward l buffer at) = not-broken L S (omega arith) (read-given L (st .links) (st .values) (st .book) l Front buffer at)
     unsaid (readBackward l buffer at) = not-broken L S (omega arith) (read-given L (st .links) (st .values) (st .book) l Back buffer at)
     unsaid (clear l) = not-broken L S (omega arith) (clear-given L (st .links) (st .values) (st .book) l)
+
+    -- a quick call gives the number of the checked one
+    quick-number : (q : QuickMove) → quickCalled E st q .number ≡ numberOf E st (checkedOf q)
+    quick-number q = quick-as-checked L S q .0
+
+    each : (l value : ℕ) (Is : ℕ → Type 0) → ((end : End) → Is (pushAt E st end l value .number)) → EachPush E st l value Is
+    each l value Is h = (h Back, h Front, subst Is (sym (quick-number (quickPushBack l value))) (h Back), subst Is (sym (quick-number (quickPushFront l value))) (h Front))
 
     module _ (l value : ℕ) (h : l < lists) where
       abbrev many : ℕ
@@ -241,10 +259,11 @@ module _ {E : Engine} (L : Lawful E) (places lists : ℕ) (shares limits : List 
           sequence = K .sequence;
           freed = λ y p q z. omega (arith, S .pool .once y p q, count-append y (joinedUp (s .chains)) (s .idle));
           within = λ l h. rw (K .limit l h) at (within S l (below l 0 h));
-          served = λ l value h k. (served-at l value h Back k, served-at l value h Front k);
-          six = λ l value h. (six-at l value h Back, six-at l value h Front);
-          seven = λ l value h. (seven-at l value h Back, seven-at l value h Front);
+          served = λ l value h k. each l value (λ n. n ≡ 0) (λ end. served-at l value h end k);
+          six = λ l value h. each l value (λ n. n ≡ 6 ↔ (length (chainAt s l) ≡ getD limits l 0)) (six-at l value h);
+          seven = λ l value h. each l value (λ n. n ≡ 7 ↔ ((length (chainAt s l) < getD limits l 0) × (getD shares l 0 ≤ length (chainAt s l)) × (length (s .idle) ≤ othersLack (st .book) s l))) (seven-at l value h);
           never = λ m. (unsaid m .0, λ k h j e. omega (arith, unsaid m .1));
+          neverQuick = λ q. (λ e. unsaid (checkedOf q) .0 (sym (quick-number q) ∙ e), λ e. omega (arith, unsaid (checkedOf q) .1, quick-number q));
         }
 
 -- demand 3, at any point of any trace
@@ -259,5 +278,5 @@ module _ {E : Engine} {places lists : ℕ} {shares limits : List ℕ} where
       → Trace E places lists shares limits (left (setupCall E places links values lists shares limits)) nothingNoted
   any-setup = begins
 
-  pub any-call : {st : State E} {ledger : Ledger} → Trace E places lists shares limits st ledger → (m : Move) → Trace E places lists shares limits (after E st m) (noted E st m ledger)
+  pub any-call : {st : State E} {ledger : Ledger} → Trace E places lists shares limits st ledger → (c : Call) → Trace E places lists shares limits (afterCall E st c) (noted E st c ledger)
   any-call = goesOn

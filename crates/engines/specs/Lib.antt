@@ -12,6 +12,8 @@ pub mod Walked
 pub mod Reads
 pub mod Calls
 pub mod OnList
+pub mod Quick
+pub mod QuickConditions
 pub mod Done
 pub mod Moves
 pub mod Rows
@@ -23,4 +25,5 @@ pub mod Trial
 pub mod Edges
 pub mod Turns
 pub mod Left
+pub mod QuickLeft
 pub mod Places

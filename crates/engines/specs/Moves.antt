@@ -1,4 +1,4 @@
--- The nine calls on a pool that is set up, as moves, over any engine: what a call is made on, the number that it gives, and what it leaves. And what a list holds there, as upstream's `view` has it.
+-- The nine calls on a pool that is set up, and the quick ones, as moves, over any engine: what a call is made on, the number that it gives, and what it leaves. And what a list holds there, as upstream's `view` has it.
 use mathlib.Core.Path.{_≡_}
 use mathlib.Core.List.{List}
 use Prim.Native.Nat.{ℕ, _<_}
@@ -9,10 +9,11 @@ use Rattle.chains.specs.Chain.{cell}
 use Rattle.shapes.specs.declared.End.the-variants.{Front, Back}
 use Rattle.shapes.specs.Ends.{contents}
 use Rattle.shapes.specs.Shape.{Shape, chainAt, joinedUp}
-use Rattle.shapes.specs.Moves.{Move, check, askLength, pushBack, pushFront, popBack, popFront, readForward, readBackward, clear}
+use Rattle.shapes.specs.Moves.{Move, check, askLength, pushBack, pushFront, popBack, popFront, readForward, readBackward, clear, QuickMove, quickPushBack, quickPushFront, quickPopBack, quickPopFront, Call, checked, quick}
 use Rattle.engines.specs.Engine.{Engine}
 use Rattle.engines.specs.Sound.{SoundBook}
 use Rattle.engines.specs.Calls.{Called, checkCall, lengthCall, pushCall, popCall, clearCall, readCall}
+use Rattle.engines.specs.Quick.{quickPush, quickPop}
 
 -- every slice and the newest book
 pub record State (E : Engine) : Type 0 where
@@ -60,6 +61,22 @@ module _ (E : Engine) where
   after st (readForward l buffer at) = st
   after st (readBackward l buffer at) = st
   after st (clear l) = left (clearCall E (st .links) (st .values) (st .book) l)
+
+  -- 02 d): what a quick call answers and leaves
+  abbrev pub quickCalled : State E → QuickMove → Called E
+  quickCalled st (quickPushBack l value) = quickPush E (st .links) (st .values) (st .book) l Back value
+  quickCalled st (quickPushFront l value) = quickPush E (st .links) (st .values) (st .book) l Front value
+  quickCalled st (quickPopBack l) = quickPop E (st .links) (st .values) (st .book) l Back
+  quickCalled st (quickPopFront l) = quickPop E (st .links) (st .values) (st .book) l Front
+
+  -- the number of any call, and what it leaves
+  abbrev pub numberOfCall : State E → Call → ℕ
+  numberOfCall st (checked m) = numberOf st m
+  numberOfCall st (quick q) = quickCalled st q .number
+
+  abbrev pub afterCall : State E → Call → State E
+  afterCall st (checked m) = after st m
+  afterCall st (quick q) = left (quickCalled st q)
 
   -- 01: "popping the front until the list is empty": pops at the front of list l, each done, until one gives 5
   pub data PoppedOut (l : ℕ) : State E → State E → Type 0 where

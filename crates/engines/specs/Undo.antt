@@ -7,12 +7,12 @@ use Rattle.books.specs.Book.{entryAt}
 use Rattle.books.specs.Place.{noPlace}
 use Rattle.shapes.specs.Ends.{contents}
 use Rattle.shapes.specs.Shape.{Shape, chainAt}
-use Rattle.shapes.specs.Moves.{Move}
+use Rattle.shapes.specs.Moves.{Call}
 use Rattle.shapes.specs.Ledger.{Ledger, onePair}
 use Rattle.engines.specs.Engine.{Engine}
 use Rattle.engines.specs.Sound.{SoundBook}
 use Rattle.engines.specs.Calls.{Called}
-use Rattle.engines.specs.Moves.{State, left, numberOf, after}
+use Rattle.engines.specs.Moves.{State, left, numberOfCall, afterCall}
 use Rattle.engines.specs.Trace.{noted}
 
 module _ (E : Engine) where
@@ -49,18 +49,18 @@ module _ (E : Engine) where
 
   -- ---- in a trace, a call that is done and the one that takes it back
 
-  module _ (st : State E) (ledger : Ledger) (l : ℕ) (call back : Move) where
+  module _ (st : State E) (ledger : Ledger) (l : ℕ) (call back : Call) where
     -- the second is done too, and the ledger notes one push and one pop more of list l while every list holds the same
     pub record PairNoted : Type 0 where
-      pub doneToo : numberOf E (after E st call) back ≡ 0
-      pub account : noted E (after E st call) back (noted E st call ledger) ≡ onePair l ledger
+      pub doneToo : numberOfCall E (afterCall E st call) back ≡ 0
+      pub account : noted E (afterCall E st call) back (noted E st call ledger) ≡ onePair l ledger
 
     -- and the state is as it was
     pub record UndoneNext : Type 0 where
       pub pair : PairNoted
-      pub sameState : after E (after E st call) back ≡ st
+      pub sameState : afterCall E (afterCall E st call) back ≡ st
 
     -- the weaker law: and what each list holds is as it was
     pub record HeldNext : Type 0 where
       pub pair : PairNoted
-      pub holdings : SameHoldings st (after E (after E st call) back)
+      pub holdings : SameHoldings st (afterCall E (afterCall E st call) back)

@@ -9,6 +9,8 @@ pub mod Unwiped
 pub mod Going
 pub mod Walks
 pub mod Tried
+pub mod QuickTried
 pub mod Changes
 pub mod Ledger
+pub mod Quick
 pub mod Sides

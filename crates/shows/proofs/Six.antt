@@ -14,7 +14,7 @@ use Rattle.shapes.specs.Numbers.{Given, done, this, later}
 use Rattle.engines.specs.Conditions.{setupConditions}
 use Rattle.xor.specs.Ten.{setupOf, pushBackOf, pushFrontOf, popBackOf, popFrontOf}
 use Rattle.xor.specs.Moves.{Pool, poolLeft, poolPopped, numberGiven, poolAfter, PoolTrace, begun, called}
-use Rattle.shapes.specs.Moves.{Move, pushBack, pushFront}
+use Rattle.shapes.specs.Moves.{Move, pushBack, pushFront, checked}
 use Rattle.engines.proofs.Fresh.{setup-given}
 use Rattle.xor.proofs.Named.{Holds, setup-holds, push-back-appends, push-front-prepends, pop-back-exactly, pop-back-takes-last, pop-front-exactly, pop-front-takes-first}
 use Rattle.shapes.specs.Ledger.{Ledger, nothingNoted, notedDone}
@@ -48,11 +48,14 @@ spelled-out = refl
 module _ {p : Pool} {d : Ledger} (t : PoolTrace 1 five five p d) where
   -- a done call is noted
   step : (m : Move) → numberGiven p m ≡ 0 → PoolTrace 1 five five (poolAfter p m) (notedDone m d)
-  step m z = subst (λ b. PoolTrace 1 five five (poolAfter p m) (cond b (notedDone m d) d)) (eq-eqb (numberGiven p m) 0 z) (called t m)
+  step m z = subst (λ b. PoolTrace 1 five five (poolAfter p m) (cond b (notedDone m d) d)) (eq-eqb (numberGiven p m) 0 z) (called t (checked m))
 
   -- "A list below its share is never refused a push", and it holds no more than was pushed
   served : d .pushes 0 < 5 → (value : ℕ) → (numberGiven p (pushBack 0 value) ≡ 0) × (numberGiven p (pushFront 0 value) ≡ 0)
-  served h value = let (s, D) = demand-3-named t in D .served 0 value (omega arith) (omega (arith, D .holds 0 (omega arith)))
+  served h value =
+      let (s, D) = demand-3-named t in
+      let (back, front, quickBack, quickFront) = D .served 0 value (omega arith) (omega (arith, D .holds 0 (omega arith))) in
+      (back, front)
 
 -- ---- setup
 

@@ -21,6 +21,7 @@ use Rattle.engines.proofs.Outcomes.{push-done, pop-done}
 use Rattle.xor.specs.Engine.{xor}
 use Rattle.xor.specs.Steps.{pushOf, popOf}
 use Rattle.xor.specs.StepDone.{PushDone, PopDone}
+use Rattle.xor.specs.Quick.{pushLeft, popLeft}
 use Rattle.xor.proofs.Steps.{push-step-done, pop-step-done}
 use Rattle.xor.proofs.Lawful.{xor-lawful}
 use Rattle.shapes.specs.Ends.{joined, opposite}
@@ -32,7 +33,7 @@ use Rattle.engines.proofs.Counted.{push-counted, pop-counted}
 -- ---- the counts are no cells
 
 module _ (end : End) (links values : List ℕ) (list : Entry) (free : Free) where
-  push-recounted : (value n m : ℕ) {r : Outcome PushStep} → PushDone end links values list free value r
+  pub push-recounted : (value n m : ℕ) {r : Outcome PushStep} → PushDone end links values list free value r
       → PushDone end links values list free value (outcome (record { done = r .answer .done; entry = withLength n (r .answer .entry); free = withCount m (r .answer .free) }) (r .links) (r .values))
   push-recounted value n m {r} D =
       record {
@@ -46,7 +47,7 @@ module _ (end : End) (links values : List ℕ) (list : Entry) (free : Free) wher
         frame = D .frame;
       }
 
-  pop-recounted : (n m : ℕ) {r : Outcome PopStep} → PopDone end links values list free r
+  pub pop-recounted : (n m : ℕ) {r : Outcome PopStep} → PopDone end links values list free r
       → PopDone end links values list free (outcome (record { done = r .answer .done; value = r .answer .value; entry = withLength n (r .answer .entry); free = withCount m (r .answer .free) }) (r .links) (r .values))
   pop-recounted n m {r} D =
       record {
@@ -68,14 +69,10 @@ module _ (links values : List ℕ) (b : AnyBook) (l : ℕ) (end : End) where
   abbrev e : Entry
   e = entryAt (b .entries) l
 
-  -- a done push as a step on list l: its entry and the free record afterwards, and every cell
-  abbrev pushLeft : Called xor → Outcome PushStep
-  pushLeft r = outcome (record { done = true; entry = entryAt (r .book .entries) l; free = r .book .free }) (r .links) (r .values)
-
-  pub push-cells : (value : ℕ) → pushCall xor links values b l end value .number ≡ 0 → PushDone end links values e (b .free) value (pushLeft (pushCall xor links values b l end value))
+  pub push-cells : (value : ℕ) → pushCall xor links values b l end value .number ≡ 0 → PushDone end links values e (b .free) value (pushLeft l (pushCall xor links values b l end value))
   unfolding pushCall
   push-cells value =
-      decided-ind _ _ (λ (r : Called xor). r .number ≡ 0 → PushDone end links values e (b .free) value (pushLeft r)) (pushTests xor links values b l)
+      decided-ind _ _ (λ (r : Called xor). r .number ≡ 0 → PushDone end links values e (b .free) value (pushLeft l r)) (pushTests xor links values b l)
       (λ k z. absurd (k z))
       (λ k z. let (s, S, P) = push-done xor-lawful links values b l end value (push-number xor links values b l end value ∙ k) in go s S P)
     where
@@ -83,7 +80,7 @@ module _ (links values : List ℕ) (b : AnyBook) (l : ℕ) (end : End) where
       r = pushOf end links values e (b .free) value
 
       go : (s : Shape) → SoundBook xor links values b s → Pushes xor links values b end l value s (pushCall xor links values b l end value)
-          → PushDone end links values e (b .free) value (pushLeft (stepped xor links values b l 0 (countedPush xor end links values e (b .free) value)))
+          → PushDone end links values e (b .free) value (pushLeft l (stepped xor links values b l 0 (countedPush xor end links values e (b .free) value)))
       go s S P =
           let H : Held xor links values e (b .free) (chainAt s l) (P .slot ∷ P .rest) = subst (λ (fs : List ℕ). Held xor links values e (b .free) (chainAt s l) fs) (P .first) (book-held S l (P .listed)) in
           let J = xor-lawful .push end links values e (b .free) (P .slot) value (chainAt s l) (P .rest) H in
@@ -93,13 +90,10 @@ module _ (links values : List ℕ) (b : AnyBook) (l : ℕ) (end : End) where
           (λ i. outcome (record { done = J .done i; entry = sym (entry-set S l (P .listed) (withLength (e .length + 1) (r .answer .entry))) i; free = withCount (b .free .count - 1) (r .answer .free) }) (r .links) (r .values))
           (push-recounted end links values e (b .free) value (e .length + 1) (b .free .count - 1) (push-step-done end links values e (b .free) value (J .done))))
 
-  abbrev popLeft : Called xor → Outcome PopStep
-  popLeft r = outcome (record { done = true; value = r .value; entry = entryAt (r .book .entries) l; free = r .book .free }) (r .links) (r .values)
-
-  pub pop-cells : popCall xor links values b l end .number ≡ 0 → PopDone end links values e (b .free) (popLeft (popCall xor links values b l end))
+  pub pop-cells : popCall xor links values b l end .number ≡ 0 → PopDone end links values e (b .free) (popLeft l (popCall xor links values b l end))
   unfolding popCall
   pop-cells =
-      decided-ind _ _ (λ (r : Called xor). r .number ≡ 0 → PopDone end links values e (b .free) (popLeft r)) (popTests xor links values b l)
+      decided-ind _ _ (λ (r : Called xor). r .number ≡ 0 → PopDone end links values e (b .free) (popLeft l r)) (popTests xor links values b l)
       (λ k z. absurd (k z))
       (λ k z. let (s, S, P) = pop-done xor-lawful links values b l end (pop-number xor links values b l end ∙ k) in go s S P)
     where
@@ -107,7 +101,7 @@ module _ (links values : List ℕ) (b : AnyBook) (l : ℕ) (end : End) where
       r = popOf end links values e (b .free)
 
       go : (s : Shape) → SoundBook xor links values b s → Pops xor links values b end l s (popCall xor links values b l end)
-          → let o = countedPop xor end links values e (b .free) in PopDone end links values e (b .free) (popLeft (stepped xor links values b l (o .value) o))
+          → let o = countedPop xor end links values e (b .free) in PopDone end links values e (b .free) (popLeft l (stepped xor links values b l (o .value) o))
       go s S P =
           let H : Held xor links values e (b .free) (joined end (P .slot) (P .rest)) (s .idle) = subst (λ (xs : List ℕ). Held xor links values e (b .free) xs (s .idle)) (P .last) (book-held S l (P .listed)) in
           let G = xor-lawful .pop end links values e (b .free) (P .slot) (P .rest) (s .idle) H in

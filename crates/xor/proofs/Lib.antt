@@ -14,10 +14,14 @@ pub mod BrokenPage
 pub mod Plain
 pub mod OneResult
 pub mod Cells
+pub mod Quick
+pub mod QuickReads
+pub mod QuickNamed
 pub mod Edges
 pub mod BrokenTried
 pub mod Bits
 pub mod Tried
+pub mod QuickTried
 pub mod Traces
 pub mod Undo
 pub mod Named

@@ -7,13 +7,15 @@ use Rattle.books.specs.Book.{mostLists, AnyBook, eight, bookOf}
 use Rattle.books.specs.Place.{placeIn}
 use Rattle.shapes.specs.declared.End.{End}
 use Rattle.shapes.specs.declared.End.the-variants.{Front, Back}
-use Rattle.shapes.specs.Moves.{Move, check, askLength, pushBack, pushFront, popBack, popFront, readForward, readBackward, clear}
+use Rattle.shapes.specs.Moves.{Move, check, askLength, pushBack, pushFront, popBack, popFront, readForward, readBackward, clear, QuickMove, quickPushBack, quickPushFront, quickPopBack, quickPopFront, Call, checked, quick}
 use Rattle.shapes.proofs.Numbers.{decided-ind}
 use Rattle.engines.specs.Calls.{Called, setupTests, listTests, pushTests, popTests, setupCall, checkCall, lengthCall, pushCall, popCall, readCall, clearCall}
-use Rattle.engines.specs.Moves.{left, numberOf, placeGiven, after}
+use Rattle.engines.specs.Quick.{quickPushTests, quickPopTests, quickPush, quickPop}
+use Rattle.engines.specs.Moves.{left, numberOf, placeGiven, after, quickCalled, numberOfCall, afterCall}
 use Rattle.xor.specs.Engine.{xor}
 use Rattle.xor.specs.Ten.{asAnswer, asPopped, setupOf, checkOf, lengthOf, pushBackOf, pushFrontOf, popBackOf, popFrontOf, readForwardOf, readBackwardOf, clearOf}
-use Rattle.xor.specs.Moves.{Pool, stateOf, poolLeft, numberGiven, placeNamed, poolAfter}
+use Rattle.xor.specs.Four.{quickPushBackOf, quickPushFrontOf, quickPopBackOf, quickPopFrontOf}
+use Rattle.xor.specs.Moves.{Pool, stateOf, poolLeft, numberGiven, placeNamed, poolAfter, quickGiven, quickAfter, givenBy, afterBy}
 
 module _ (r : Called xor) where
   pub answer-plain : (asAnswer r .answer .refusal .number ≡ r .number) × (placeIn (asAnswer r .answer .refusal) ≡ r .place) × (asAnswer r .answer .book ≡ bookOf (r .book)) × (asAnswer r .links ≡ r .links) × (asAnswer r .values ≡ r .values)
@@ -58,6 +60,13 @@ module _ (links values : List ℕ) where
       pub clear-named : clearOf links values b l ≡ asAnswer (clearCall xor links values (eight b) l)
       clear-named = refl
 
+      -- and so is each name of Four.antt
+      pub quick-named : (value : ℕ) → (quickPushBackOf links values b l value ≡ asAnswer (quickPush xor links values (eight b) l Back value))
+          × (quickPushFrontOf links values b l value ≡ asAnswer (quickPush xor links values (eight b) l Front value))
+          × (quickPopBackOf links values b l ≡ asPopped (quickPop xor links values (eight b) l Back))
+          × (quickPopFrontOf links values b l ≡ asPopped (quickPop xor links values (eight b) l Front))
+      quick-named value = (refl, refl, refl, refl)
+
 -- ---- a call leaves the number of places, so that the book of eight is told back whole
 
 -- a book with eight places, told back and made any book again, is itself
@@ -72,6 +81,14 @@ module _ (links values : List ℕ) (b : AnyBook) (l : ℕ) where
   pop-places : (end : End) → popCall xor links values b l end .book .places ≡ b .places
   unfolding popCall
   pop-places end = decided-ind _ _ (λ (r : Called xor). r .book .places ≡ b .places) (popTests xor links values b l) (λ k. refl) (λ k. refl)
+
+  quick-push-places : (end : End) (value : ℕ) → quickPush xor links values b l end value .book .places ≡ b .places
+  unfolding quickPush
+  quick-push-places end value = decided-ind _ _ (λ (r : Called xor). r .book .places ≡ b .places) (quickPushTests xor links values b l end value) (λ k. refl) (λ k. refl)
+
+  quick-pop-places : (end : End) → quickPop xor links values b l end .book .places ≡ b .places
+  unfolding quickPop
+  quick-pop-places end = decided-ind _ _ (λ (r : Called xor). r .book .places ≡ b .places) (quickPopTests xor links values b l end) (λ k. refl) (λ k. refl)
 
   clear-places : clearCall xor links values b l .book .places ≡ b .places
   unfolding clearCall
@@ -126,3 +143,27 @@ after-told p (popFront l) = same-state (popCall xor (p .links) (p .values) (eigh
 after-told p (readForward l buffer at) = refl
 after-told p (readBackward l buffer at) = refl
 after-told p (clear l) = same-state (clearCall xor (p .links) (p .values) (eight (p .book)) l) (clear-places (p .links) (p .values) (eight (p .book)) l)
+
+-- ---- and of the quick calls
+
+pub quick-number-told : (p : Pool) (q : QuickMove) → quickGiven p q ≡ quickCalled xor (stateOf p) q .number
+quick-number-told p (quickPushBack l value) = refl
+quick-number-told p (quickPushFront l value) = refl
+quick-number-told p (quickPopBack l) = refl
+quick-number-told p (quickPopFront l) = refl
+
+pub quick-after-told : (p : Pool) (q : QuickMove) → stateOf (quickAfter p q) ≡ left (quickCalled xor (stateOf p) q)
+quick-after-told p (quickPushBack l value) = same-state (quickPush xor (p .links) (p .values) (eight (p .book)) l Back value) (quick-push-places (p .links) (p .values) (eight (p .book)) l Back value)
+quick-after-told p (quickPushFront l value) = same-state (quickPush xor (p .links) (p .values) (eight (p .book)) l Front value) (quick-push-places (p .links) (p .values) (eight (p .book)) l Front value)
+quick-after-told p (quickPopBack l) = same-state (quickPop xor (p .links) (p .values) (eight (p .book)) l Back) (quick-pop-places (p .links) (p .values) (eight (p .book)) l Back)
+quick-after-told p (quickPopFront l) = same-state (quickPop xor (p .links) (p .values) (eight (p .book)) l Front) (quick-pop-places (p .links) (p .values) (eight (p .book)) l Front)
+
+-- ---- of any call, checked or quick
+
+pub number-told-by : (p : Pool) (c : Call) → givenBy p c ≡ numberOfCall xor (stateOf p) c
+number-told-by p (checked m) = number-told p m
+number-told-by p (quick q) = quick-number-told p q
+
+pub after-told-by : (p : Pool) (c : Call) → stateOf (afterBy p c) ≡ afterCall xor (stateOf p) c
+after-told-by p (checked m) = after-told p m
+after-told-by p (quick q) = quick-after-told p q

@@ -14,24 +14,24 @@ use Rattle.books.specs.Outcome.{Outcome, outcome}
 use Rattle.shapes.specs.declared.End.{End}
 use Rattle.shapes.specs.declared.End.the-variants.{Front, Back}
 use Rattle.shapes.specs.Shape.{Shape, chainAt}
-use Rattle.shapes.specs.Moves.{Move, pushBack, pushFront, popBack, popFront, pushMove, popMove}
+use Rattle.shapes.specs.Moves.{Move, pushBack, pushFront, popBack, popFront, pushMove, popMove, Call, checked, moveOf}
 use Rattle.shapes.specs.Ledger.{Ledger, notedDone, onePair}
 use Rattle.engines.specs.Calls.{Called}
-use Rattle.engines.specs.Moves.{State, left, numberOf, after}
+use Rattle.engines.specs.Moves.{State, left, after, numberOfCall, afterCall}
 use Rattle.engines.specs.Trace.{noted}
 use Rattle.engines.specs.Undo.{Undone, SameHoldings, HeldAgain, PairNoted, UndoneNext, HeldNext}
 use Rattle.engines.proofs.Exactly.{pop-zero}
 use Rattle.engines.proofs.After.{pushAt, popAt}
 use Rattle.engines.proofs.Undo.{push-undone, pop-undone}
 use Rattle.engines.proofs.Again.{push-held-again, pop-held-again}
-use Rattle.engines.proofs.UndoTraces.{press-undone, press-held, lift-undone, lift-held}
+use Rattle.engines.proofs.UndoTraces.{press-undone, press-held, lift-undone, lift-held, press-undone-by, press-held-by, lift-undone-by, lift-held-by}
 use Rattle.xor.specs.Engine.{xor}
 use Rattle.xor.specs.Sound.{XorBook}
 use Rattle.xor.specs.Ten.{asAnswer, asPopped, pushBackOf, pushFrontOf, popBackOf, popFrontOf}
-use Rattle.xor.specs.Moves.{Pool, stateOf, poolLeft, poolPopped, numberGiven, poolAfter, notedBy, PoolTrace, called}
+use Rattle.xor.specs.Moves.{Pool, stateOf, poolLeft, poolPopped, numberGiven, poolAfter, givenBy, afterBy, notedBy, PoolTrace, called}
 use Rattle.xor.specs.Undo.{AsBefore, TakenBack, PutBack, TakenHeld, PutHeld, handedAt, PoolNoted, PoolUndone, PoolHeld}
 use Rattle.xor.proofs.Page.{page-told}
-use Rattle.xor.proofs.Plain.{number-told, after-told}
+use Rattle.xor.proofs.Plain.{number-told, after-told, number-told-by, after-told-by}
 use Rattle.xor.proofs.Traces.{pool-trace}
 use Rattle.xor.proofs.Lawful.{xor-lawful}
 
@@ -148,19 +148,19 @@ abbrev poolFrom : State xor → Pool
 poolFrom st = record { links = st .links; values = st .values; book = bookOf (st .book) }
 
 -- two calls by name leave what the two calls over the engine leave
-then : (p : Pool) (call back : Move) → stateOf (poolAfter (poolAfter p call) back) ≡ after xor (after xor (stateOf p) call) back
-then p call back = after-told (poolAfter p call) back ∙ ap (λ (st : State xor). after xor st back) (after-told p call)
+then : (p : Pool) (call back : Call) → stateOf (afterBy (afterBy p call) back) ≡ afterCall xor (afterCall xor (stateOf p) call) back
+then p call back = after-told-by (afterBy p call) back ∙ ap (λ (st : State xor). afterCall xor st back) (after-told-by p call)
 
 module _ {p : Pool} {ledger : Ledger} {l : ℕ} where
-  module _ {call back : Move} where
+  module _ {call back : Call} where
     pair-named : PairNoted xor (stateOf p) ledger l call back → PoolNoted p ledger l call back
-    pair-named U = record { doneToo = second ∙ U .doneToo; account = (λ i. cond (eqb (second i) 0) (notedDone back (first i)) (first i)) ∙ U .account }
+    pair-named U = record { doneToo = second ∙ U .doneToo; account = (λ i. cond (eqb (second i) 0) (notedDone (moveOf back) (first i)) (first i)) ∙ U .account }
       where
-        second : numberGiven (poolAfter p call) back ≡ numberOf xor (after xor (stateOf p) call) back
-        second = number-told (poolAfter p call) back ∙ ap (λ (st : State xor). numberOf xor st back) (after-told p call)
+        second : givenBy (afterBy p call) back ≡ numberOfCall xor (afterCall xor (stateOf p) call) back
+        second = number-told-by (afterBy p call) back ∙ ap (λ (st : State xor). numberOfCall xor st back) (after-told-by p call)
 
         first : notedBy p call ledger ≡ noted xor (stateOf p) call ledger
-        first = ap (λ (n : ℕ). cond (eqb n 0) (notedDone call ledger) ledger) (number-told p call)
+        first = ap (λ (n : ℕ). cond (eqb n 0) (notedDone (moveOf call) ledger) ledger) (number-told-by p call)
 
     named : UndoneNext xor (stateOf p) ledger l call back → PoolUndone p ledger l call back
     named U = record { pair = pair-named (U .pair); samePool = ap poolFrom (then p call back ∙ U .sameState) }
@@ -172,22 +172,38 @@ module _ {p : Pool} {ledger : Ledger} {l : ℕ} where
     pub named-undone-trace : {lists : ℕ} {shares limits : List ℕ} → PoolTrace lists shares limits p ledger → PoolUndone p ledger l call back → PoolTrace lists shares limits p (onePair l ledger)
     named-undone-trace {lists} {shares} {limits} t U =
         subst (λ (x : Pool). PoolTrace lists shares limits x (onePair l ledger)) (U .samePool)
-        (subst (λ (y : Ledger). PoolTrace lists shares limits (poolAfter (poolAfter p call) back) y) (U .pair .account) (called (called t call) back))
+        (subst (λ (y : Ledger). PoolTrace lists shares limits (afterBy (afterBy p call) back) y) (U .pair .account) (called (called t call) back))
 
   -- a press taken straight back
   module _ (end : End) (value : ℕ) (z : numberGiven p (pushMove end l value) ≡ 0) where
-    pub named-press-undone : PoolUndone p ledger l (pushMove end l value) (popMove end l)
+    pub named-press-undone : PoolUndone p ledger l (checked (pushMove end l value)) (checked (popMove end l))
     named-press-undone = named (press-undone xor-lawful l end value (sym (number-told p (pushMove end l value)) ∙ z))
 
-    pub named-press-held : PoolHeld p ledger l (pushMove end l value) (popMove end l)
+    pub named-press-held : PoolHeld p ledger l (checked (pushMove end l value)) (checked (popMove end l))
     named-press-held = named-held (press-held xor-lawful l end value (sym (number-told p (pushMove end l value)) ∙ z))
 
-  -- a pop pushed back
   module _ {lists : ℕ} {shares limits : List ℕ} (t : PoolTrace lists shares limits p ledger) where
-    pub named-lift-undone : (end : End) → numberGiven p (popMove end l) ≡ 0 → PoolUndone p ledger l (popMove end l) (pushMove end l (handedAt p end l))
+    -- a pop pushed back
+    pub named-lift-undone : (end : End) → numberGiven p (popMove end l) ≡ 0 → PoolUndone p ledger l (checked (popMove end l)) (checked (pushMove end l (handedAt p end l)))
     named-lift-undone Front z = named (lift-undone xor-lawful l (pool-trace t) Front z)
     named-lift-undone Back z = named (lift-undone xor-lawful l (pool-trace t) Back z)
 
-    pub named-lift-held : (end : End) → numberGiven p (popMove end l) ≡ 0 → PoolHeld p ledger l (popMove end l) (pushMove end l (handedAt p end l))
+    pub named-lift-held : (end : End) → numberGiven p (popMove end l) ≡ 0 → PoolHeld p ledger l (checked (popMove end l)) (checked (pushMove end l (handedAt p end l)))
     named-lift-held Front z = named-held (lift-held xor-lawful l (pool-trace t) Front z)
     named-lift-held Back z = named-held (lift-held xor-lawful l (pool-trace t) Back z)
+
+    -- of any two calls that ask for a push and its pop, each checked or quick
+    module _ (call back : Call) (z : givenBy p call ≡ 0) where
+      pub named-press-undone-by : (end : End) (value : ℕ) → moveOf call ≡ pushMove end l value → moveOf back ≡ popMove end l → PoolUndone p ledger l call back
+      named-press-undone-by end value push pop = named (press-undone-by xor-lawful (pool-trace t) call back end l (sym (number-told-by p call) ∙ z) value push pop)
+
+      pub named-press-held-by : (end : End) (value : ℕ) → moveOf call ≡ pushMove end l value → moveOf back ≡ popMove end l → PoolHeld p ledger l call back
+      named-press-held-by end value push pop = named-held (press-held-by xor-lawful (pool-trace t) call back end l (sym (number-told-by p call) ∙ z) value push pop)
+
+      pub named-lift-undone-by : (end : End) → moveOf call ≡ popMove end l → moveOf back ≡ pushMove end l (handedAt p end l) → PoolUndone p ledger l call back
+      named-lift-undone-by Front pop push = named (lift-undone-by xor-lawful (pool-trace t) call back Front l (sym (number-told-by p call) ∙ z) pop push)
+      named-lift-undone-by Back pop push = named (lift-undone-by xor-lawful (pool-trace t) call back Back l (sym (number-told-by p call) ∙ z) pop push)
+
+      pub named-lift-held-by : (end : End) → moveOf call ≡ popMove end l → moveOf back ≡ pushMove end l (handedAt p end l) → PoolHeld p ledger l call back
+      named-lift-held-by Front pop push = named-held (lift-held-by xor-lawful (pool-trace t) call back Front l (sym (number-told-by p call) ∙ z) pop push)
+      named-lift-held-by Back pop push = named-held (lift-held-by xor-lawful (pool-trace t) call back Back l (sym (number-told-by p call) ∙ z) pop push)

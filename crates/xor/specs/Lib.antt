@@ -8,9 +8,14 @@ pub mod Engine
 pub mod Sound
 pub mod Broken
 pub mod Ten
+pub mod Four
+pub mod Quick
 pub mod Along
 pub mod ClearDone
 pub mod Moves
 pub mod Undo
 pub mod Edges
 pub mod Bits
+pub mod QuickTried
+pub mod QuickPushTried
+pub mod QuickPopTried

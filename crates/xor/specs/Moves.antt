@@ -1,4 +1,4 @@
--- The ten calls by name as moves of a pool with its book of eight, and the traces that they make: demand 3's premise, said of what the promises cite.
+-- The ten calls and the quick ones by name as moves of a pool with its book of eight, and the traces that they make: demand 3's premise, said of what the promises cite.
 use mathlib.Core.Path.{_≡_}
 use mathlib.Core.Bool.{cond}
 use mathlib.Core.List.{List}
@@ -10,11 +10,12 @@ use Rattle.books.specs.declared.Popped.{Popped}
 use Rattle.books.specs.Place.{Place, placeIn}
 use Rattle.books.specs.Book.{eight}
 use Rattle.books.specs.Outcome.{Outcome}
-use Rattle.shapes.specs.Moves.{Move, check, askLength, pushBack, pushFront, popBack, popFront, readForward, readBackward, clear}
+use Rattle.shapes.specs.Moves.{Move, check, askLength, pushBack, pushFront, popBack, popFront, readForward, readBackward, clear, QuickMove, quickPushBack, quickPushFront, quickPopBack, quickPopFront, Call, checked, quick, moveOf}
 use Rattle.shapes.specs.Ledger.{Ledger, nothingNoted, notedDone}
 use Rattle.engines.specs.Moves.{State}
 use Rattle.xor.specs.Engine.{xor}
 use Rattle.xor.specs.Ten.{setupOf, checkOf, lengthOf, pushBackOf, pushFrontOf, popBackOf, popFrontOf, readForwardOf, readBackwardOf, clearOf}
+use Rattle.xor.specs.Four.{quickPushBackOf, quickPushFrontOf, quickPopBackOf, quickPopFrontOf}
 
 -- the two slices and the newest book
 pub record Pool : Type 0 where
@@ -69,12 +70,38 @@ poolAfter p (readForward l buffer at) = p
 poolAfter p (readBackward l buffer at) = p
 poolAfter p (clear l) = poolLeft (clearOf (p .links) (p .values) (p .book) l)
 
--- a refused call adds nothing to the ledger
-abbrev pub notedBy : Pool → Move → Ledger → Ledger
-notedBy p m ledger = cond (eqb (numberGiven p m) 0) (notedDone m ledger) ledger
+-- ---- 02 d)
 
--- "Take an accepted setup, let only the other nine calls touch that pool, each with its slices and the newest book": any of them, one after the other, done or refused
+-- the number that a quick call gives
+abbrev pub quickGiven : Pool → QuickMove → ℕ
+quickGiven p (quickPushBack l value) = quickPushBackOf (p .links) (p .values) (p .book) l value .answer .refusal .number
+quickGiven p (quickPushFront l value) = quickPushFrontOf (p .links) (p .values) (p .book) l value .answer .refusal .number
+quickGiven p (quickPopBack l) = quickPopBackOf (p .links) (p .values) (p .book) l .answer .given .refusal .number
+quickGiven p (quickPopFront l) = quickPopFrontOf (p .links) (p .values) (p .book) l .answer .given .refusal .number
+
+-- what it leaves
+abbrev pub quickAfter : Pool → QuickMove → Pool
+quickAfter p (quickPushBack l value) = poolLeft (quickPushBackOf (p .links) (p .values) (p .book) l value)
+quickAfter p (quickPushFront l value) = poolLeft (quickPushFrontOf (p .links) (p .values) (p .book) l value)
+quickAfter p (quickPopBack l) = poolPopped (quickPopBackOf (p .links) (p .values) (p .book) l)
+quickAfter p (quickPopFront l) = poolPopped (quickPopFrontOf (p .links) (p .values) (p .book) l)
+
+-- ---- any call, checked or quick
+
+abbrev pub givenBy : Pool → Call → ℕ
+givenBy p (checked m) = numberGiven p m
+givenBy p (quick q) = quickGiven p q
+
+abbrev pub afterBy : Pool → Call → Pool
+afterBy p (checked m) = poolAfter p m
+afterBy p (quick q) = quickAfter p q
+
+-- a refused call adds nothing to the ledger
+abbrev pub notedBy : Pool → Call → Ledger → Ledger
+notedBy p c ledger = cond (eqb (givenBy p c) 0) (notedDone (moveOf c) ledger) ledger
+
+-- "Take an accepted setup, let only the other nine calls touch that pool, each with its slices and the newest book": any of them, one after the other, done or refused. 02 d): "any mixture of quick and checked calls"
 pub data PoolTrace (lists : ℕ) (shares limits : List ℕ) : Pool → Ledger → Type 0 where
   begun : (links values : List ℕ) → setupOf links values lists shares limits .answer .refusal .number ≡ 0
       → PoolTrace lists shares limits (poolLeft (setupOf links values lists shares limits)) nothingNoted
-  called : {p : Pool} {ledger : Ledger} → PoolTrace lists shares limits p ledger → (m : Move) → PoolTrace lists shares limits (poolAfter p m) (notedBy p m ledger)
+  called : {p : Pool} {ledger : Ledger} → PoolTrace lists shares limits p ledger → (c : Call) → PoolTrace lists shares limits (afterBy p c) (notedBy p c ledger)

@@ -9,11 +9,11 @@ use Rattle.books.specs.Outcome.{Outcome}
 use Rattle.books.specs.Place.{noPlace, placeIn}
 use Rattle.shapes.specs.declared.End.{End}
 use Rattle.shapes.specs.declared.End.the-variants.{Front, Back}
-use Rattle.shapes.specs.Moves.{Move}
+use Rattle.shapes.specs.Moves.{Call}
 use Rattle.shapes.specs.Ledger.{Ledger, onePair}
 use Rattle.engines.specs.Undo.{SameHoldings}
 use Rattle.xor.specs.Engine.{xor}
-use Rattle.xor.specs.Moves.{Pool, stateOf, poolLeft, poolPopped, numberGiven, poolAfter, notedBy}
+use Rattle.xor.specs.Moves.{Pool, stateOf, poolLeft, poolPopped, givenBy, afterBy, notedBy}
 use Rattle.xor.specs.Ten.{popBackOf, popFrontOf}
 
 module _ (links values : List ℕ) (b : Book) where
@@ -49,25 +49,25 @@ module _ (links values : List ℕ) (b : Book) where
     pub number : r .answer .refusal .number ≡ 0
     pub holdings : HeldBefore (poolLeft r)
 
--- what a pop at either end hands out
+-- what a pop at either end hands out, and on a sound pool a quick one too
 abbrev pub handedAt : Pool → End → ℕ → ℕ
 handedAt p Front l = popFrontOf (p .links) (p .values) (p .book) l .answer .given .value
 handedAt p Back l = popBackOf (p .links) (p .values) (p .book) l .answer .given .value
 
 -- ---- in a trace of the calls by name, a call that is done and the one that takes it back
 
-module _ (p : Pool) (ledger : Ledger) (l : ℕ) (call back : Move) where
+module _ (p : Pool) (ledger : Ledger) (l : ℕ) (call back : Call) where
   -- the second is done too, and the ledger notes one push and one pop more of list l while every list holds the same
   pub record PoolNoted : Type 0 where
-    pub doneToo : numberGiven (poolAfter p call) back ≡ 0
-    pub account : notedBy (poolAfter p call) back (notedBy p call ledger) ≡ onePair l ledger
+    pub doneToo : givenBy (afterBy p call) back ≡ 0
+    pub account : notedBy (afterBy p call) back (notedBy p call ledger) ≡ onePair l ledger
 
   -- and the pool with its book is as it was
   pub record PoolUndone : Type 0 where
     pub pair : PoolNoted
-    pub samePool : poolAfter (poolAfter p call) back ≡ p
+    pub samePool : afterBy (afterBy p call) back ≡ p
 
   -- the weaker law: and what each list holds is as it was
   pub record PoolHeld : Type 0 where
     pub pair : PoolNoted
-    pub holdings : SameHoldings xor (stateOf p) (stateOf (poolAfter (poolAfter p call) back))
+    pub holdings : SameHoldings xor (stateOf p) (stateOf (afterBy (afterBy p call) back))
