@@ -25,7 +25,7 @@ use Rattle.faces.proofs.Kept.{kept-done, kept-refused}
 
 module _ (links values words : List ℕ) (h : length words ≡ 43) where
   -- the words at exit are those of the book, which a refused call returns as it went in
-  same-words : (number : ℕ) (b : Book) → (number ≢ 0 → b ≡ bookFrom words) → kept number words b ≡ wordsOf b
+  pub same-words : (number : ℕ) (b : Book) → (number ≢ 0 → b ≡ bookFrom words) → kept number words b ≡ wordsOf b
   same-words number b f = go (ℕ-discrete number 0)
     where
       go : Dec (number ≡ 0) → kept number words b ≡ wordsOf b

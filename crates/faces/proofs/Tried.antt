@@ -13,6 +13,7 @@ use Rattle.shapes.specs.Walk.{walkOn, walkable}
 use Rattle.shapes.specs.Numbers.{decided}
 use Rattle.shapes.specs.Ledger.{Ledger}
 use Rattle.shapes.specs.Moves.{pushBack}
+use Rattle.shapes.specs.Moves as M
 use Rattle.engines.specs.Counted.{countedPush, countedPop}
 use Rattle.engines.specs.Reads.{isSlot, valuesAlong, clearOn}
 use Rattle.engines.specs.Check.{sizesFit, gatherAll, nullSlotZero, poolFound, checkFound, idlePath}
@@ -62,10 +63,10 @@ unfolding tabulate isFair isZero gather allZero keepsRules nothingMet gatherAll 
 c-answers-tried = refl
 
 -- include/flailreeve.h says the same number
-pub version-is : faceVersion ≡ 3
+pub version-is : faceVersion ≡ 4
 version-is = refl
 
 -- there are traces: three pushes on list 1, whose limit is three, begun on words of which there are none
 pub face-six-reached : (m : Memory) × (d : Ledger) × FaceTrace 2 (2 ∷ 1 ∷ replicate 6 0) (5 ∷ 3 ∷ replicate 6 0) m d × (returned m (pushBack 1 14) ≡ 6) × (d .pushes 1 ≡ 3)
 unfolding tabulate isFair isZero gather allZero keepsRules nothingMet gatherAll countFault spareFault idleFault nullSlotZero poolFound checkFound sizesFit decided isMetOf markOf unmet walkOn walkable idlePath kept nearOf withNear isBeside pushEmptyOf pushBesideOf pushOf popOf takeOf releaseOf inPool checkCall lengthCall pushCall popCall clearCall countedPush countedPop clearOn readCall isSlot valuesAlong freshLink freshValue setupCall
-face-six-reached = (_, _, continued (continued (continued (started (replicate 6 9) (replicate 6 7) [] refl) (pushBack 1 11)) (pushBack 1 12)) (pushBack 1 13), refl, refl)
+face-six-reached = (_, _, continued (continued (continued (started (replicate 6 9) (replicate 6 7) [] refl) (M.checked (pushBack 1 11))) (M.checked (pushBack 1 12))) (M.checked (pushBack 1 13)), refl, refl)

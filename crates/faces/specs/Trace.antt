@@ -1,4 +1,4 @@
--- Demand 3 of the C functions: a trace of calls of include/flailreeve.h's ten functions on what the firmware lends, and what holds at every point of it.
+-- Demand 3 of the C functions: a trace of calls of include/flailreeve.h's ten functions and its four quick ones on what the firmware lends, and what holds at every point of it.
 use mathlib.Core.Path.{_≡_}
 use mathlib.Core.Logic.{_↔_, _≢_}
 use mathlib.Core.Bool.{cond}
@@ -16,11 +16,13 @@ use Rattle.chains.specs.Count.{count}
 use Rattle.shapes.specs.Ends.{contents}
 use Rattle.shapes.specs.Shape.{Shape, chainAt, joinedUp}
 use Rattle.shapes.specs.Setup.{addedUp}
-use Rattle.shapes.specs.Moves.{Move, check, askLength, pushBack, pushFront, popBack, popFront, readForward, readBackward, clear}
+use Rattle.shapes.specs.Moves.{Move, check, askLength, pushBack, pushFront, popBack, popFront, readForward, readBackward, clear, QuickMove, quickPushBack, quickPushFront, quickPopBack, quickPopFront, checkedOf, Call, moveOf}
+use Rattle.shapes.specs.Moves as M
 use Rattle.shapes.specs.Ledger.{Ledger, nothingNoted, notedDone}
 use Rattle.engines.specs.Trace.{othersLack}
 use Rattle.xor.specs.Sound.{XorBook}
 use Rattle.faces.specs.Face.{Prepared, Changed, Handed, told, shown, setupFace, checkFace, lengthFace, pushBackFace, pushFrontFace, popBackFace, popFrontFace, readForwardFace, readBackwardFace, clearFace}
+use Rattle.faces.specs.Quick.{QuickPushed, QuickPopped, quickPushBackFace, quickPushFrontFace, quickPopBackFace, quickPopFrontFace}
 
 -- what the firmware lends: both slices, and the book's words
 pub record Memory : Type 0 where
@@ -74,15 +76,53 @@ memoryAfter m (readForward l buffer at) = m
 memoryAfter m (readBackward l buffer at) = m
 memoryAfter m (clear l) = memoryChanged (clearFace (m .links) (m .values) (m .words) l)
 
--- a refused call adds nothing to the ledger
-abbrev pub notedFor : Memory → Move → Ledger → Ledger
-notedFor m move ledger = cond (eqb (returned m move) 0) (notedDone move ledger) ledger
+-- ---- the quick functions
 
--- "Take an accepted setup, let only the other nine calls touch that pool": any of them, one after the other, done or refused. The words that setup is lent may hold anything, and be of any number
+abbrev pub memoryQuickPushed : Outcome QuickPushed → Memory
+memoryQuickPushed r = record { links = r .links; values = r .values; words = r .answer .book }
+
+abbrev pub memoryQuickPopped : Outcome QuickPopped → Memory
+memoryQuickPopped r = record { links = r .links; values = r .values; words = r .answer .book }
+
+-- the number that a quick function returns
+abbrev pub quickReturned : Memory → QuickMove → ℕ
+quickReturned m (quickPushBack l value) = quickPushBackFace (m .links) (m .values) (m .words) l value .answer .number
+quickReturned m (quickPushFront l value) = quickPushFrontFace (m .links) (m .values) (m .words) l value .answer .number
+quickReturned m (quickPopBack l) = quickPopBackFace (m .links) (m .values) (m .words) l .answer .number
+quickReturned m (quickPopFront l) = quickPopFrontFace (m .links) (m .values) (m .words) l .answer .number
+
+-- what the memory holds then
+abbrev pub quickMemory : Memory → QuickMove → Memory
+quickMemory m (quickPushBack l value) = memoryQuickPushed (quickPushBackFace (m .links) (m .values) (m .words) l value)
+quickMemory m (quickPushFront l value) = memoryQuickPushed (quickPushFrontFace (m .links) (m .values) (m .words) l value)
+quickMemory m (quickPopBack l) = memoryQuickPopped (quickPopBackFace (m .links) (m .values) (m .words) l)
+quickMemory m (quickPopFront l) = memoryQuickPopped (quickPopFrontFace (m .links) (m .values) (m .words) l)
+
+-- ---- any function but setup
+
+abbrev pub returnedBy : Memory → Call → ℕ
+returnedBy m (M.checked move) = returned m move
+returnedBy m (M.quick q) = quickReturned m q
+
+abbrev pub memoryBy : Memory → Call → Memory
+memoryBy m (M.checked move) = memoryAfter m move
+memoryBy m (M.quick q) = quickMemory m q
+
+-- a refused call adds nothing to the ledger
+abbrev pub notedFor : Memory → Call → Ledger → Ledger
+notedFor m call ledger = cond (eqb (returnedBy m call) 0) (notedDone (moveOf call) ledger) ledger
+
+-- "Take an accepted setup, let only the other nine calls touch that pool": any of them, one after the other, done or refused. 02 d): "any mixture of quick and checked calls". The words that setup is lent may hold anything, and be of any number
 pub data FaceTrace (lists : ℕ) (shares limits : List ℕ) : Memory → Ledger → Type 0 where
   started : (links values words : List ℕ) → setupFace links values lists shares limits words .answer .number ≡ 0
       → FaceTrace lists shares limits (memoryPrepared (setupFace links values lists shares limits words)) nothingNoted
-  continued : {m : Memory} {ledger : Ledger} → FaceTrace lists shares limits m ledger → (move : Move) → FaceTrace lists shares limits (memoryAfter m move) (notedFor m move ledger)
+  continued : {m : Memory} {ledger : Ledger} → FaceTrace lists shares limits m ledger → (call : Call) → FaceTrace lists shares limits (memoryBy m call) (notedFor m call ledger)
+
+-- what is so of the number that each push of a value on list l returns: at either end, checked and quick
+abbrev pub EachReturn : Memory → ℕ → ℕ → (ℕ → Type 0) → Type 0
+EachReturn m l value Is =
+    Is (returned m (pushBack l value)) × Is (returned m (pushFront l value))
+    × Is (quickReturned m (quickPushBack l value)) × Is (quickReturned m (quickPushFront l value))
 
 -- what demand 3 says at any point of a trace, sentence by sentence, of the numbers that the C functions return. `s` is the sound shape: the slots that each list holds, and the free ones
 pub record FaceDemand3 (lists : ℕ) (shares limits : List ℕ) (m : Memory) (ledger : Ledger) (s : Shape) : Type 0 where
@@ -104,22 +144,25 @@ pub record FaceDemand3 (lists : ℕ) (shares limits : List ℕ) (m : Memory) (le
   -- "After any calls, no list holds more than its limit"
   pub within : (l : ℕ) → l < lists → length (chainAt s l) ≤ getD limits l 0
   -- "A list below its share is never refused a push"
-  pub served : (l value : ℕ) → l < lists → length (chainAt s l) < getD shares l 0 → (returned m (pushBack l value) ≡ 0) × (returned m (pushFront l value) ≡ 0)
+  pub served : (l value : ℕ) → l < lists → length (chainAt s l) < getD shares l 0 → EachReturn m l value (λ n. n ≡ 0)
   -- "A push on an existing list gets 6 exactly at its limit"
-  pub six : (l value : ℕ) → l < lists
-      → (returned m (pushBack l value) ≡ 6 ↔ (length (chainAt s l) ≡ getD limits l 0)) × (returned m (pushFront l value) ≡ 6 ↔ (length (chainAt s l) ≡ getD limits l 0))
+  pub six : (l value : ℕ) → l < lists → EachReturn m l value (λ n. n ≡ 6 ↔ (length (chainAt s l) ≡ getD limits l 0))
   -- "it gets 7 exactly when it is under its limit, has its share, and the free slots are no more than what the other lists still lack of theirs"
   pub seven : (l value : ℕ) → l < lists
       → let Tight = (length (chainAt s l) < getD limits l 0) × (getD shares l 0 ≤ length (chainAt s l)) × (length (s .idle) ≤ othersLack (eight (bookFrom (m .words))) s l) in
-      (returned m (pushBack l value) ≡ 7 ↔ Tight) × (returned m (pushFront l value) ≡ 7 ↔ Tight)
+      EachReturn m l value (λ n. n ≡ 7 ↔ Tight)
   -- and where it gets neither it is done
-  pub taken : (l value : ℕ) → l < lists
-      → (returned m (pushBack l value) ≢ 6 → returned m (pushBack l value) ≢ 7 → returned m (pushBack l value) ≡ 0)
-      × (returned m (pushFront l value) ≢ 6 → returned m (pushFront l value) ≢ 7 → returned m (pushFront l value) ≡ 0)
+  pub taken : (l value : ℕ) → l < lists → EachReturn m l value (λ n. n ≢ 6 → n ≢ 7 → n ≡ 0)
   -- the check finds it sound; no call of a trace is refused by 1, or by one of 9 to 16, and none names a place
   pub accepted : returned m check ≡ 0
   pub never : (move : Move) → (returned m move ≢ 1) × ((k : ℕ) → 9 ≤ k → k ≤ 16 → returned m move ≢ k)
   pub nowhere : (move : Move) → placeWritten m move ≡ noPlace
+  -- 02 d): and no quick one by 1 or 17; each returns what the checked function would, and leaves the same memory; a quick pop writes the same value
+  pub neverQuick : (q : QuickMove) → (quickReturned m q ≢ 1) × (quickReturned m q ≢ 17)
+  pub asChecked : (q : QuickMove) → (quickReturned m q ≡ returned m (checkedOf q)) × (quickMemory m q ≡ memoryAfter m (checkedOf q))
+  pub sameValue : (l : ℕ)
+      → (quickPopBackFace (m .links) (m .values) (m .words) l .answer .value ≡ popBackFace (m .links) (m .values) (m .words) l .answer .value)
+      × (quickPopFrontFace (m .links) (m .values) (m .words) l .answer .value ≡ popFrontFace (m .links) (m .values) (m .words) l .answer .value)
 
 -- what the calls give on a list of the trace that holds the values `vs`, and that a clear leaves nothing of them
 pub record FaceList (m : Memory) (s : Shape) (l : ℕ) (vs : List ℕ) : Type 0 where

@@ -7,28 +7,29 @@ use lib.ListN.{replicate}
 use Rattle.books.specs.Place.{Place, noPlace}
 use Rattle.books.specs.Tried.{sameNumbers, allBits}
 use Rattle.shapes.specs.Moves.{Move, check, askLength, pushBack, pushFront, popBack, popFront, readForward, readBackward, clear}
+use Rattle.shapes.specs.Moves as M
 use Rattle.shapes.specs.Ledger.{Ledger, nothingNoted}
 use Rattle.faces.specs.Face.{Told, Shown, setupFace, lengthFace, popBackFace, popFrontFace, readForwardFace, readBackwardFace}
 use Rattle.faces.specs.Trace.{Memory, memoryPrepared, returned, placeWritten, memoryAfter, notedFor}
 
 -- the words of a book with two lists, shares 2 and 1, limits 5 and 3: their heads, tails and lengths, the free head and the free count
-abbrev twoWords : ℕ → ℕ → ℕ → ℕ → ℕ → ℕ → ℕ → ℕ → List ℕ
+abbrev pub twoWords : ℕ → ℕ → ℕ → ℕ → ℕ → ℕ → ℕ → ℕ → List ℕ
 twoWords head₀ tail₀ many₀ head₁ tail₁ many₁ free count = (2 ∷ head₀ ∷ tail₀ ∷ 2 ∷ 5 ∷ many₀ ∷ head₁ ∷ tail₁ ∷ 1 ∷ 3 ∷ many₁ ∷ []) ++ replicate 30 0 ++ free ∷ count ∷ []
 
-abbrev six : ℕ → ℕ → ℕ → ℕ → ℕ → ℕ → List ℕ
-six a b c d e f = a ∷ b ∷ c ∷ d ∷ e ∷ f ∷ []
+abbrev pub cSix : ℕ → ℕ → ℕ → ℕ → ℕ → ℕ → List ℕ
+cSix a b c d e f = a ∷ b ∷ c ∷ d ∷ e ∷ f ∷ []
 
-abbrev memory : List ℕ → List ℕ → List ℕ → Memory
+abbrev pub memory : List ℕ → List ℕ → List ℕ → Memory
 memory links values words = record { links = links; values = values; words = words }
 
-abbrev sameMemory : Memory → Memory → Bool
+abbrev pub sameMemory : Memory → Memory → Bool
 sameMemory m k = sameNumbers (m .links) (k .links) && (sameNumbers (m .values) (k .values) && sameNumbers (m .words) (k .words))
 
 -- ---- setup
 
 -- P1: links 0,2,3,4,5,0 and free head 1
 abbrev pub cP1 : Memory
-cP1 = memory (six 0 2 3 4 5 0) (six 0 0 0 0 0 0) (twoWords 0 0 0 0 0 0 1 5)
+cP1 = memory (cSix 0 2 3 4 5 0) (cSix 0 0 0 0 0 0) (twoWords 0 0 0 0 0 0 1 5)
 
 -- a setup on memory that holds something, with the number that it returns and what it leaves
 pub record CSetup : Type 0 where
@@ -82,30 +83,30 @@ abbrev cNamed : Memory → ℕ → ℕ → ℕ → Move → CTurn
 cNamed m rule list position move = record { move = move; number = rule; place = record { list = list; position = position }; left = m }
 
 abbrev pub cP2 : Memory
-cP2 = memory (six 0 1 1 1 5 0) (six 0 20 30 10 0 0) (twoWords 3 2 3 0 0 0 4 2)
+cP2 = memory (cSix 0 1 1 1 5 0) (cSix 0 20 30 10 0 0) (twoWords 3 2 3 0 0 0 4 2)
 
 abbrev pub cP3 : Memory
-cP3 = memory (six 0 1 5 1 2 0) (six 0 20 30 10 40 0) (twoWords 3 4 4 0 0 0 5 1)
+cP3 = memory (cSix 0 1 5 1 2 0) (cSix 0 20 30 10 40 0) (twoWords 3 4 4 0 0 0 5 1)
 
-abbrev cP5 : Memory
-cP5 = memory (six 0 1 5 1 2 0) (six 0 20 30 10 40 60) (twoWords 3 4 4 5 5 1 0 0)
+abbrev pub cP5 : Memory
+cP5 = memory (cSix 0 1 5 1 2 0) (cSix 0 20 30 10 40 60) (twoWords 3 4 4 5 5 1 0 0)
 
-abbrev cP6 : Memory
-cP6 = memory (six 0 2 5 0 2 0) (six 0 20 30 0 40 60) (twoWords 1 4 3 5 5 1 3 1)
+abbrev pub cP6 : Memory
+cP6 = memory (cSix 0 2 5 0 2 0) (cSix 0 20 30 0 40 60) (twoWords 1 4 3 5 5 1 3 1)
 
-abbrev cP7 : Memory
-cP7 = memory (six 0 2 5 5 2 3) (six 0 20 30 61 40 60) (twoWords 1 4 3 5 3 2 0 0)
+abbrev pub cP7 : Memory
+cP7 = memory (cSix 0 2 5 5 2 3) (cSix 0 20 30 61 40 60) (twoWords 1 4 3 5 3 2 0 0)
 
-abbrev cleared : Memory
-cleared = memory (six 0 0 1 5 2 3) (six 0 0 0 61 0 60) (twoWords 0 0 0 5 3 2 4 3)
+abbrev pub cCleared : Memory
+cCleared = memory (cSix 0 0 1 5 2 3) (cSix 0 0 0 61 0 60) (twoWords 0 0 0 5 3 2 4 3)
 
-abbrev cPopped : Memory
-cPopped = memory (six 0 0 1 4 2 0) (six 0 0 0 0 0 60) (twoWords 0 0 0 5 5 1 3 4)
+abbrev pub cPopped : Memory
+cPopped = memory (cSix 0 0 1 4 2 0) (cSix 0 0 0 0 0 60) (twoWords 0 0 0 5 5 1 3 4)
 
 abbrev pub cTurns : List CTurn
 cTurns =
-    cTurn (pushBack 0 20) 0 (memory (six 0 0 3 4 5 0) (six 0 20 0 0 0 0) (twoWords 1 1 1 0 0 0 2 4))
-    ∷ cTurn (pushBack 0 30) 0 (memory (six 0 2 1 4 5 0) (six 0 20 30 0 0 0) (twoWords 1 2 2 0 0 0 3 3))
+    cTurn (pushBack 0 20) 0 (memory (cSix 0 0 3 4 5 0) (cSix 0 20 0 0 0 0) (twoWords 1 1 1 0 0 0 2 4))
+    ∷ cTurn (pushBack 0 30) 0 (memory (cSix 0 2 1 4 5 0) (cSix 0 20 30 0 0 0) (twoWords 1 2 2 0 0 0 3 3))
     ∷ cTurn (pushFront 0 10) 0 cP2
     ∷ cTurn (pushBack 0 40) 0 cP3
     -- P4: one slot is free, and list 1 lacks one
@@ -126,10 +127,10 @@ cTurns =
     ∷ cTurn (readForward 0 (7 ∷ 7 ∷ []) 0) 8 cP7
     ∷ cTurn (readBackward 0 (7 ∷ 7 ∷ 7 ∷ []) 0) 0 cP7
     -- Cancel, on a list with three slots, on the empty one, and then pops
-    ∷ cTurn (clear 0) 0 cleared
-    ∷ cTurn (clear 0) 0 cleared
-    ∷ cTurn (popBack 0) 5 cleared
-    ∷ cTurn (popFront 0) 5 cleared
+    ∷ cTurn (clear 0) 0 cCleared
+    ∷ cTurn (clear 0) 0 cCleared
+    ∷ cTurn (popBack 0) 5 cCleared
+    ∷ cTurn (popFront 0) 5 cCleared
     ∷ cTurn (popBack 1) 0 cPopped
     ∷ []
 
@@ -139,7 +140,7 @@ everyCall = check ∷ askLength 0 ∷ pushBack 1 60 ∷ pushFront 9 60 ∷ popBa
 
 -- P3 with another free head in its words: it is not sound, and every call leaves it
 abbrev pub cDamaged : Memory
-cDamaged = memory (six 0 1 5 1 2 0) (six 0 20 30 10 40 0) (twoWords 3 4 4 0 0 0 4 1)
+cDamaged = memory (cSix 0 1 5 1 2 0) (cSix 0 20 30 10 40 0) (twoWords 3 4 4 0 0 0 4 1)
 
 abbrev pub cRefused : List CTurn
 cRefused = map (cNamed cDamaged 12 0 0) everyCall
@@ -150,14 +151,14 @@ abbrev pub cUndone : List CTurn
 cUndone =
     cTurn (pushBack 0 40) 0 cP3
     ∷ cTurn (popBack 0) 0 cP2
-    ∷ cTurn (pushFront 0 70) 0 (memory (six 0 1 1 5 3 0) (six 0 20 30 10 70 0) (twoWords 4 2 4 0 0 0 5 1))
+    ∷ cTurn (pushFront 0 70) 0 (memory (cSix 0 1 1 5 3 0) (cSix 0 20 30 10 70 0) (twoWords 4 2 4 0 0 0 5 1))
     ∷ cTurn (popFront 0) 0 cP2
     -- the list has its share, and the one free slot is another's: it gets 7, and yet what was popped goes back
     ∷ cTurn (pushBack 0 40) 0 cP3
     ∷ cTurn (pushBack 0 50) 7 cP3
     ∷ cTurn (popBack 0) 0 cP2
     ∷ cTurn (pushBack 0 40) 0 cP3
-    ∷ cTurn (popFront 0) 0 (memory (six 0 2 5 5 2 0) (six 0 20 30 0 40 0) (twoWords 1 4 3 0 0 0 3 2))
+    ∷ cTurn (popFront 0) 0 (memory (cSix 0 2 5 5 2 0) (cSix 0 20 30 0 40 0) (twoWords 1 4 3 0 0 0 3 2))
     ∷ cTurn (pushFront 0 10) 0 cP3
     -- the last free slot, and a list that is empty
     ∷ cTurn (pushFront 1 60) 0 cP5
@@ -166,14 +167,14 @@ cUndone =
 
 -- list 1 at its limit: it gets 6, and yet what was popped goes back
 abbrev pub cFull : Memory
-cFull = memory (six 0 2 2 2 5 0) (six 0 11 12 13 0 0) (twoWords 0 0 0 1 3 3 4 2)
+cFull = memory (cSix 0 2 2 2 5 0) (cSix 0 11 12 13 0 0) (twoWords 0 0 0 1 3 3 4 2)
 
 abbrev pub cAtLimit : List CTurn
 cAtLimit =
     cTurn (pushBack 1 14) 6 cFull
-    ∷ cTurn (popBack 1) 0 (memory (six 0 2 1 4 5 0) (six 0 11 12 0 0 0) (twoWords 0 0 0 1 2 2 3 3))
+    ∷ cTurn (popBack 1) 0 (memory (cSix 0 2 1 4 5 0) (cSix 0 11 12 0 0 0) (twoWords 0 0 0 1 2 2 3 3))
     ∷ cTurn (pushBack 1 13) 0 cFull
-    ∷ cTurn (popFront 1) 0 (memory (six 0 4 3 2 5 0) (six 0 0 12 13 0 0) (twoWords 0 0 0 2 3 2 1 3))
+    ∷ cTurn (popFront 1) 0 (memory (cSix 0 4 3 2 5 0) (cSix 0 0 12 13 0 0) (twoWords 0 0 0 2 3 2 1 3))
     ∷ cTurn (pushFront 1 11) 0 cFull
     ∷ []
 
@@ -197,7 +198,7 @@ cTurnsPass m (c ∷ cs) =
 
 -- ---- 02 b) and c)
 
--- pools of six slots, each with another rule broken first: every call names it with its place, and leaves everything
+-- pools of cSix slots, each with another rule broken first: every call names it with its place, and leaves everything
 pub record CBroken : Type 0 where
   pub memory : Memory
   pub rule : ℕ
@@ -210,27 +211,27 @@ cBroken rule list position memory = record { memory = memory; rule = rule; list 
 abbrev pub cBrokenPools : List CBroken
 cBrokenPools =
     -- three lists, where the third has a limit and the book says two
-    cBroken 9 0 0 (memory (six 0 1 5 1 2 0) (six 0 20 30 10 40 0) ((2 ∷ 3 ∷ 4 ∷ 2 ∷ 5 ∷ 4 ∷ 0 ∷ 0 ∷ 1 ∷ 3 ∷ 0 ∷ 0 ∷ 0 ∷ 0 ∷ 1 ∷ 0 ∷ []) ++ replicate 25 0 ++ 5 ∷ 1 ∷ []))
+    cBroken 9 0 0 (memory (cSix 0 1 5 1 2 0) (cSix 0 20 30 10 40 0) ((2 ∷ 3 ∷ 4 ∷ 2 ∷ 5 ∷ 4 ∷ 0 ∷ 0 ∷ 1 ∷ 3 ∷ 0 ∷ 0 ∷ 0 ∷ 0 ∷ 1 ∷ 0 ∷ []) ++ replicate 25 0 ++ 5 ∷ 1 ∷ []))
     -- the same with a length there
-    ∷ cBroken 9 0 0 (memory (six 0 1 5 1 2 0) (six 0 20 30 10 40 0) ((2 ∷ 3 ∷ 4 ∷ 2 ∷ 5 ∷ 4 ∷ 0 ∷ 0 ∷ 1 ∷ 3 ∷ 0 ∷ 0 ∷ 0 ∷ 0 ∷ 0 ∷ 1 ∷ []) ++ replicate 25 0 ++ 5 ∷ 1 ∷ []))
-    ∷ cBroken 10 0 0 (memory (six 1 1 5 1 2 0) (six 0 20 30 10 40 0) (twoWords 3 4 4 0 0 0 5 1))
-    ∷ cBroken 10 0 0 (memory (six 0 1 5 1 2 0) (six allBits 20 30 10 40 0) (twoWords 3 4 4 0 0 0 5 1))
+    ∷ cBroken 9 0 0 (memory (cSix 0 1 5 1 2 0) (cSix 0 20 30 10 40 0) ((2 ∷ 3 ∷ 4 ∷ 2 ∷ 5 ∷ 4 ∷ 0 ∷ 0 ∷ 1 ∷ 3 ∷ 0 ∷ 0 ∷ 0 ∷ 0 ∷ 0 ∷ 1 ∷ []) ++ replicate 25 0 ++ 5 ∷ 1 ∷ []))
+    ∷ cBroken 10 0 0 (memory (cSix 1 1 5 1 2 0) (cSix 0 20 30 10 40 0) (twoWords 3 4 4 0 0 0 5 1))
+    ∷ cBroken 10 0 0 (memory (cSix 0 1 5 1 2 0) (cSix allBits 20 30 10 40 0) (twoWords 3 4 4 0 0 0 5 1))
     -- list 0 is 3, 1, 2, 4: it ends before its tail; list 1 has a tail and no head; list 1 has slot 2
-    ∷ cBroken 11 0 4 (memory (six 0 1 5 1 2 0) (six 0 20 30 10 40 0) (twoWords 3 2 3 0 0 0 5 2))
-    ∷ cBroken 11 1 0 (memory (six 0 1 5 1 2 0) (six 0 20 30 10 40 0) (twoWords 3 4 4 0 5 0 5 1))
-    ∷ cBroken 11 1 1 (memory (six 0 1 5 1 2 2) (six 0 20 30 10 40 60) (twoWords 3 4 4 5 5 1 0 0))
+    ∷ cBroken 11 0 4 (memory (cSix 0 1 5 1 2 0) (cSix 0 20 30 10 40 0) (twoWords 3 2 3 0 0 0 5 2))
+    ∷ cBroken 11 1 0 (memory (cSix 0 1 5 1 2 0) (cSix 0 20 30 10 40 0) (twoWords 3 4 4 0 5 0 5 1))
+    ∷ cBroken 11 1 1 (memory (cSix 0 1 5 1 2 2) (cSix 0 20 30 10 40 60) (twoWords 3 4 4 5 5 1 0 0))
     -- the free chain leaves the pool behind slot 5
-    ∷ cBroken 12 0 1 (memory (six 0 1 5 1 2 6) (six 0 20 30 10 40 0) (twoWords 3 4 4 0 0 0 5 1))
+    ∷ cBroken 12 0 1 (memory (cSix 0 1 5 1 2 6) (cSix 0 20 30 10 40 0) (twoWords 3 4 4 0 0 0 5 1))
     -- slot 5 is nowhere; slot 5 is free and holds one bit
-    ∷ cBroken 13 0 5 (memory (six 0 1 5 1 2 0) (six 0 20 30 10 40 0) (twoWords 3 4 4 0 0 0 0 1))
-    ∷ cBroken 14 0 5 (memory (six 0 1 5 1 2 0) (six 0 20 30 10 40 9223372036854775808) (twoWords 3 4 4 0 0 0 5 1))
+    ∷ cBroken 13 0 5 (memory (cSix 0 1 5 1 2 0) (cSix 0 20 30 10 40 0) (twoWords 3 4 4 0 0 0 0 1))
+    ∷ cBroken 14 0 5 (memory (cSix 0 1 5 1 2 0) (cSix 0 20 30 10 40 9223372036854775808) (twoWords 3 4 4 0 0 0 5 1))
     -- list 1 is over its limit of three; list 0 has all five slots, and list 1 lacks one
-    ∷ cBroken 15 1 0 (memory (six 0 1 5 1 2 0) (six 0 20 30 10 40 0) (twoWords 0 0 0 3 4 4 5 1))
-    ∷ cBroken 15 2 0 (memory (six 0 1 5 1 7 4) (six 0 20 30 10 40 50) (twoWords 3 5 5 0 0 0 0 0))
+    ∷ cBroken 15 1 0 (memory (cSix 0 1 5 1 2 0) (cSix 0 20 30 10 40 0) (twoWords 0 0 0 3 4 4 5 1))
+    ∷ cBroken 15 2 0 (memory (cSix 0 1 5 1 7 4) (cSix 0 20 30 10 40 50) (twoWords 3 5 5 0 0 0 0 0))
     -- 02 c): the stored length of list 0, of list 1, and the free count, with others beside them
-    ∷ cBroken 16 0 0 (memory (six 0 1 5 1 2 0) (six 0 20 30 10 40 0) (twoWords 3 4 3 0 0 1 5 2))
-    ∷ cBroken 16 1 0 (memory (six 0 1 5 1 2 0) (six 0 20 30 10 40 0) (twoWords 3 4 4 0 0 32768 5 1))
-    ∷ cBroken 16 2 0 (memory (six 0 1 5 1 2 0) (six 0 20 30 10 40 0) (twoWords 3 4 4 0 0 0 5 32769))
+    ∷ cBroken 16 0 0 (memory (cSix 0 1 5 1 2 0) (cSix 0 20 30 10 40 0) (twoWords 3 4 3 0 0 1 5 2))
+    ∷ cBroken 16 1 0 (memory (cSix 0 1 5 1 2 0) (cSix 0 20 30 10 40 0) (twoWords 3 4 4 0 0 32768 5 1))
+    ∷ cBroken 16 2 0 (memory (cSix 0 1 5 1 2 0) (cSix 0 20 30 10 40 0) (twoWords 3 4 4 0 0 0 5 32769))
     ∷ []
 
 abbrev pub cBrokenPass : List CBroken → Bool
@@ -242,7 +243,7 @@ cBrokenPass (c ∷ cs) = cTurnsPass (c .memory) (map (cNamed (c .memory) (c .rul
 -- what the trace has noted after the first of the calls, n of them
 abbrev notedAlong : Memory → Ledger → List CTurn → Ledger
 notedAlong m ledger [] = ledger
-notedAlong m ledger (c ∷ cs) = notedAlong (memoryAfter m (c .move)) (notedFor m (c .move) ledger) cs
+notedAlong m ledger (c ∷ cs) = notedAlong (memoryAfter m (c .move)) (notedFor m (M.checked (c .move)) ledger) cs
 
 abbrev pub notedFrom : List CTurn → Ledger
 notedFrom cs = notedAlong cP1 nothingNoted cs
@@ -274,12 +275,12 @@ cAnswersPass =
     && (eqb (popBackFace (m .links) (m .values) (m .words) 0 .answer .value) 40
     && (eqb (popBackFace (m .links) (m .values) (m .words) 1 .answer .value) 61
     && (eqb (popBackFace (m .links) (m .values) (m .words) 2 .answer .value) 0
-    && (eqb (popFrontFace (cleared .links) (cleared .values) (cleared .words) 0 .answer .value) 0
+    && (eqb (popFrontFace (cCleared .links) (cCleared .values) (cCleared .words) 0 .answer .value) 0
     && (shownIs (readForwardFace (m .links) (m .values) (m .words) 0 five 1) 0 3 (7 ∷ 20 ∷ 30 ∷ 40 ∷ 7 ∷ [])
     && (shownIs (readBackwardFace (m .links) (m .values) (m .words) 0 five 2) 0 3 (7 ∷ 7 ∷ 40 ∷ 30 ∷ 20 ∷ [])
     && (shownIs (readForwardFace (cP3 .links) (cP3 .values) (cP3 .words) 0 five 1) 0 4 (7 ∷ 10 ∷ 20 ∷ 30 ∷ 40 ∷ [])
     && (shownIs (readBackwardFace (cP3 .links) (cP3 .values) (cP3 .words) 0 five 0) 0 4 (40 ∷ 30 ∷ 20 ∷ 10 ∷ 7 ∷ [])
     && (shownIs (readForwardFace (m .links) (m .values) (m .words) 0 five 3) 8 0 five
     && (shownIs (readBackwardFace (m .links) (m .values) (m .words) 2 five 0) 4 0 five
-    && (shownIs (readForwardFace (cleared .links) (cleared .values) (cleared .words) 0 five 5) 0 0 five
-    && shownIs (readForwardFace (cleared .links) (cleared .values) (cleared .words) 0 five 6) 8 0 five)))))))))))))))))
+    && (shownIs (readForwardFace (cCleared .links) (cCleared .values) (cCleared .words) 0 five 5) 0 0 five
+    && shownIs (readForwardFace (cCleared .links) (cCleared .values) (cCleared .words) 0 five 6) 8 0 five)))))))))))))))))

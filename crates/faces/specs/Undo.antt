@@ -9,13 +9,13 @@ use Rattle.books.specs.Outcome.{Outcome}
 use Rattle.books.specs.Words.{bookFrom}
 use Rattle.shapes.specs.declared.End.{End}
 use Rattle.shapes.specs.declared.End.the-variants.{Front, Back}
-use Rattle.shapes.specs.Moves.{Move}
+use Rattle.shapes.specs.Moves.{Call}
 use Rattle.shapes.specs.Ledger.{Ledger, onePair}
 use Rattle.engines.specs.Moves.{State}
 use Rattle.engines.specs.Undo.{SameHoldings}
 use Rattle.xor.specs.Engine.{xor}
 use Rattle.faces.specs.Face.{Changed, Handed, pushBackFace, pushFrontFace, popBackFace, popFrontFace}
-use Rattle.faces.specs.Trace.{Memory, memoryChanged, memoryHanded, returned, memoryAfter, notedFor}
+use Rattle.faces.specs.Trace.{Memory, memoryChanged, memoryHanded, returnedBy, memoryBy, notedFor}
 
 -- the pool that the memory holds, as the laws over any engine have it
 abbrev pub stateIn : Memory → State xor
@@ -66,25 +66,25 @@ PopsUndone = (links values words : List ℕ) → length words ≡ 43 → (l : �
     → (let r = popBackFace links values words l in r .answer .number ≡ 0 → FacePutBack links values words (pushBackFace (r .links) (r .values) (r .answer .book) l (r .answer .value)))
     × (let r = popFrontFace links values words l in r .answer .number ≡ 0 → FacePutBack links values words (pushFrontFace (r .links) (r .values) (r .answer .book) l (r .answer .value)))
 
--- what a pop at either end writes to `value`
+-- what a pop at either end writes to `value`, and on a sound pool a quick one too
 abbrev pub handedTo : Memory → End → ℕ → ℕ
 handedTo m Front l = popFrontFace (m .links) (m .values) (m .words) l .answer .value
 handedTo m Back l = popBackFace (m .links) (m .values) (m .words) l .answer .value
 
 -- ---- in a trace of the C functions, a call that returned 0 and the one that takes it back
 
-module _ (m : Memory) (ledger : Ledger) (l : ℕ) (call back : Move) where
+module _ (m : Memory) (ledger : Ledger) (l : ℕ) (call back : Call) where
   -- the second returns 0 too, and the ledger notes one push and one pop more of list l while every list holds the same
   pub record MemoryNoted : Type 0 where
-    pub doneToo : returned (memoryAfter m call) back ≡ 0
-    pub account : notedFor (memoryAfter m call) back (notedFor m call ledger) ≡ onePair l ledger
+    pub doneToo : returnedBy (memoryBy m call) back ≡ 0
+    pub account : notedFor (memoryBy m call) back (notedFor m call ledger) ≡ onePair l ledger
 
   -- and the memory is as it was
   pub record MemoryUndone : Type 0 where
     pub pair : MemoryNoted
-    pub sameMemory : memoryAfter (memoryAfter m call) back ≡ m
+    pub sameMemory : memoryBy (memoryBy m call) back ≡ m
 
   -- the weaker law: and what each list holds is as it was
   pub record MemoryHeld : Type 0 where
     pub pair : MemoryNoted
-    pub holdings : HoldingsBefore (m .links) (m .values) (m .words) (memoryAfter (memoryAfter m call) back)
+    pub holdings : HoldingsBefore (m .links) (m .values) (m .words) (memoryBy (memoryBy m call) back)

@@ -2,4 +2,4 @@
 use Prim.Native.Nat.{ℕ}
 
 abbrev pub faceVersion : ℕ
-faceVersion = 3
+faceVersion = 4
