@@ -1,4 +1,5 @@
--- How a book is put into words, and what a look tells put into one number.
+-- How a book is put into words, what a look tells put into one number, and the stored counts one by one.
 pub mod Put
 pub mod Packed
 pub mod Told
+pub mod Tallied

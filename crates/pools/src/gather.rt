@@ -20,7 +20,7 @@ ghost use Rattle.engines.specs.Check.{gatherAll};
 ghost use Rattle.xor.specs.Engine.{xor};
 
 // How much of its share a list lacks: share less length, or 0.
-fn lack(share: u16, many: usize) -> usize
+pub(crate) fn lack(share: u16, many: usize) -> usize
     ensures { λ r. ⌜ (r ≡ share - many) × (r < 65536) ⌝ }
 {
     let whole = rules::wide(share);

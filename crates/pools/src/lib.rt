@@ -7,6 +7,7 @@ ghost use Rattle.books.specs.Test.{sizeFits};
 mod book;
 pub mod check;
 mod gather;
+pub mod quick;
 pub mod word;
 pub mod words;
 

@@ -21,32 +21,32 @@ use Rattle.engines.specs.OnList.{onList, notOnList, pushOn, popOn}
 use Rattle.xor.specs.Steps.{pushOf, popOf}
 use Rattle.xor.specs.Engine.{xor, pushedAs, poppedAs}
 
-abbrev changed : ℕ → Entry → Free → ListChange
-changed number entry free = record { number = number; entry = entry; free = free }
+abbrev pub changeOf : ℕ → Entry → Free → ListChange
+changeOf number entry free = record { number = number; entry = entry; free = free }
 
 module _ (links values : List ℕ) (entry : Entry) (free : Free) (end : End) (number : ℕ) where
   module _ (lacks value : ℕ) (t : number ≡ firstThat (pushOwnTests entry (entry .length) lacks (free .count))) where
-    pub push-refused-on : number ≢ 0 → onList (changed number entry free) 0 links values ≡ pushOn xor links values entry free lacks end value
+    pub push-refused-on : number ≢ 0 → onList (changeOf number entry free) 0 links values ≡ pushOn xor links values entry free lacks end value
     unfolding pushOn
     push-refused-on d = ap (notOnList xor links values entry free) t ∙ sym (decided-refused _ (notOnList xor links values entry free) (pushOwnTests entry (entry .length) lacks (free .count)) (λ z. d (t ∙ z)))
 
     pub push-done-on : number ≡ 0 → {r : PushStep} {l v : List ℕ} → pushedAs (outcome r l v) ≡ ifMade (wordUp (entry .length)) (wordDown (free .count)) (pushedAs (pushOf end links values entry free value))
-        → onList (changed 0 (r .entry) (r .free)) 0 l v ≡ pushOn xor links values entry free lacks end value
+        → onList (changeOf 0 (r .entry) (r .free)) 0 l v ≡ pushOn xor links values entry free lacks end value
     unfolding pushOn
     push-done-on z q =
-        ap (λ (o : Step (List ℕ)). onList (changed 0 (o .entry) (o .free)) 0 (o .links) (o .values)) q
+        ap (λ (o : Step (List ℕ)). onList (changeOf 0 (o .entry) (o .free)) 0 (o .links) (o .values)) q
         ∙ sym (decided-done _ (notOnList xor links values entry free) (pushOwnTests entry (entry .length) lacks (free .count)) (sym t ∙ z))
 
   module _ (t : number ≡ firstThat (popOwnTests (entry .length))) where
-    pub pop-refused-on : number ≢ 0 → onList (changed number entry free) 0 links values ≡ popOn xor links values entry free end
+    pub pop-refused-on : number ≢ 0 → onList (changeOf number entry free) 0 links values ≡ popOn xor links values entry free end
     unfolding popOn
     pop-refused-on d = ap (notOnList xor links values entry free) t ∙ sym (decided-refused _ (notOnList xor links values entry free) (popOwnTests (entry .length)) (λ z. d (t ∙ z)))
 
     pub pop-done-on : number ≡ 0 → {r : PopStep} {l v : List ℕ} → poppedAs (outcome r l v) ≡ ifMade (wordDown (entry .length)) (wordUp (free .count)) (poppedAs (popOf end links values entry free))
-        → onList (changed 0 (r .entry) (r .free)) (r .value) l v ≡ popOn xor links values entry free end
+        → onList (changeOf 0 (r .entry) (r .free)) (r .value) l v ≡ popOn xor links values entry free end
     unfolding popOn
     pop-done-on z q =
-        ap (λ (o : Step (List ℕ)). onList (changed 0 (o .entry) (o .free)) (o .value) (o .links) (o .values)) q
+        ap (λ (o : Step (List ℕ)). onList (changeOf 0 (o .entry) (o .free)) (o .value) (o .links) (o .values)) q
         ∙ sym (decided-done _ (notOnList xor links values entry free) (popOwnTests (entry .length)) (sym t ∙ z))
 
 -- ---- the counts, where the engine's step is done

@@ -57,13 +57,13 @@ pub(crate) fn pop(
 }
 
 // One more, one less, and so many more, in a word.
-fn up(n: u16) -> u16
+pub(crate) fn up(n: u16) -> u16
     ensures { λ r. ⌜ r ≡ wordUp n ⌝ }
 {
     ((rules::wide(n) + 1) % 65536) as u16
 }
 
-fn down(n: u16) -> u16
+pub(crate) fn down(n: u16) -> u16
     ensures { λ r. ⌜ r ≡ wordDown n ⌝ }
 {
     ((rules::wide(n) + 65535) % 65536) as u16
@@ -76,7 +76,7 @@ pub(crate) fn sum(n: u16, m: u16) -> u16
 }
 
 // The list with another stored length.
-fn with_length(length: u16, entry: Entry) -> Entry
+pub(crate) fn with_length(length: u16, entry: Entry) -> Entry
     ensures { λ r. ⌜ r ≡ withLength length entry ⌝ }
 {
     Entry {

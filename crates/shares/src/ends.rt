@@ -112,7 +112,7 @@ fn pop(links: &mut [u16], values: &mut [u64], end: End, book: Book, list: u16) -
     )
 }
 
-fn popped(refusal: Refusal, value: u64, book: Book) -> Popped
+pub(crate) fn popped(refusal: Refusal, value: u64, book: Book) -> Popped
     ensures { λ r. ⌜ r ≡ record { given = record { refusal = refusal; value = value }; book = book } ⌝ }
 {
     Popped {
