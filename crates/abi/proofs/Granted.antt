@@ -1,4 +1,4 @@
--- A push, a pop and a clear leave the list's share and limit, whatever the cells hold. So the C face need not store them.
+-- A push, a pop and a clear, and a quick push and pop, leave the list's share and limit, whatever the cells hold. So the C face need not store them.
 use mathlib.Core.Path.{_≡_, refl, sym, ap, _∙_}
 use mathlib.Core.Bool.{Bool, true, false}
 use mathlib.Core.List.{List}
@@ -17,6 +17,7 @@ use Rattle.shapes.proofs.Numbers.{decided-ind}
 use Rattle.engines.specs.Engine.{Step}
 use Rattle.engines.proofs.Counted.{CountedWay, refused, counted, counted-way}
 use Rattle.engines.specs.OnList.{OnList, pushOn, popOn}
+use Rattle.engines.specs.Quick.{quickPushOwn, quickPopOwn, quickPushOn, quickPopOn}
 use Rattle.pools.specs.Kept.{withEnds}
 use Rattle.xor.specs.Along.{clearOnList}
 use Rattle.xor.specs.Engine.{xor}
@@ -73,6 +74,18 @@ module _ (end : End) (links values : List ℕ) (list : Entry) (free : Free) wher
       decided-ind _ _ (λ (r : OnList xor). Granted list (r .entry)) (popOwnTests (list .length)) (λ k. (refl, refl))
       (λ k. counted-granted popped (counted-way (xor .pop end links values list free) (wordDown (list .length)) (wordUp (free .count))))
 
+  quick-push-granted : (lacks value : ℕ) → Granted list (quickPushOn xor end links values list free lacks value .entry)
+  unfolding quickPushOn
+  quick-push-granted lacks value =
+      decided-ind _ _ (λ (r : OnList xor). Granted list (r .entry)) (quickPushOwn xor end links values list free lacks value) (λ k. (refl, refl))
+      (λ k. counted-granted (pushed value) (counted-way (xor .push end links values list free value) (wordUp (list .length)) (wordDown (free .count))))
+
+  quick-pop-granted : Granted list (quickPopOn xor end links values list free .entry)
+  unfolding quickPopOn
+  quick-pop-granted =
+      decided-ind _ _ (λ (r : OnList xor). Granted list (r .entry)) (quickPopOwn xor end links values list free) (λ k. (refl, refl))
+      (λ k. counted-granted popped (counted-way (xor .pop end links values list free) (wordDown (list .length)) (wordUp (free .count))))
+
 clear-granted : (links values : List ℕ) (list : Entry) (free : Free) → Granted list (clearOnList links values list free .entry)
 unfolding clearOnList
 clear-granted links values list free = (refl, refl)
@@ -87,6 +100,12 @@ module _ (links values : List ℕ) (list : Entry) (free : Free) {o : OnList xor}
 
   pub pop-grants : (end : End) → o ≡ popOn xor links values list free end → list ≡ at → Granted at (o .entry)
   pop-grants end q e = through q (pop-granted end links values list free) e
+
+  pub quick-push-grants : (lacks : ℕ) (end : End) (value : ℕ) → o ≡ quickPushOn xor end links values list free lacks value → list ≡ at → Granted at (o .entry)
+  quick-push-grants lacks end value q e = through q (quick-push-granted end links values list free lacks value) e
+
+  pub quick-pop-grants : (end : End) → o ≡ quickPopOn xor end links values list free → list ≡ at → Granted at (o .entry)
+  quick-pop-grants end q e = through q (quick-pop-granted end links values list free) e
 
   pub clear-grants : o ≡ clearOnList links values list free → list ≡ at → Granted at (o .entry)
   clear-grants q e = through q (clear-granted links values list free) e

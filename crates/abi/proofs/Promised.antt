@@ -11,6 +11,7 @@ use denote.Triple.Clauses.{closing}
 use Rattle.books.specs.Outcome.{outcome}
 use Rattle.books.specs.Words.{placeFrom}
 use Rattle.faces.specs.Face.{prepared, checked, changed, handed, told, shown, setupFace, checkFace, lengthFace, pushBackFace, pushFrontFace, popBackFace, popFrontFace, readForwardFace, readBackwardFace, clearFace}
+use Rattle.faces.specs.Quick.{quickPushed, quickPopped, quickPushBackFace, quickPushFrontFace, quickPopBackFace, quickPopFrontFace}
 use Rattle.abi.proofs.changes.flailreeve_setup as setup
 use Rattle.abi.proofs.looks.flailreeve_check as check
 use Rattle.abi.proofs.looks.flailreeve_length as length
@@ -21,6 +22,10 @@ use Rattle.abi.proofs.changes.flailreeve_pop_front as pop-front
 use Rattle.abi.proofs.looks.flailreeve_read_forward as read-forward
 use Rattle.abi.proofs.looks.flailreeve_read_backward as read-backward
 use Rattle.abi.proofs.changes.flailreeve_clear as clear
+use Rattle.abi.proofs.quick.flailreeve_quick_push_back as quick-push-back
+use Rattle.abi.proofs.quick.flailreeve_quick_push_front as quick-push-front
+use Rattle.abi.proofs.quick.flailreeve_quick_pop_back as quick-pop-back
+use Rattle.abi.proofs.quick.flailreeve_quick_pop_front as quick-pop-front
 use Rattle.abi.proofs.about.flailreeve_version as version
 use Rattle.abi.proofs.about.flailreeve_text as text
 use Rattle.wording.specs.Digits.{Written}
@@ -54,6 +59,18 @@ module _ {M : Type 1} (𝓤 : URA M) (H : Heap 𝓤) (A : Atoms 𝓤) (mem : Mem
 
   pub face-read-backward-promises : read-backward.spec 𝓤 H A mem run ≡ closing 𝓤 H A read-backward.ended (λ κs a. record { ghost = Unit {0}; requires = λ _. emp 𝓤; ensures = λ _ r e. fact 𝓤 (shown r (placeFrom (e .1 .1 .1 .1 .1 .1 .1 .0 .now)) (e .1 .1 .1 .1 .1 .1 .0 .now) (e .1 .1 .1 .1 .0 .now) ≡ readBackwardFace (a .0 .now) (a .1 .0 .now) (a .1 .1 .0 .now) (a .1 .1 .1 .0) (a .1 .1 .1 .1 .0 .now) (a .1 .1 .1 .1 .1 .0)) })
   face-read-backward-promises = refl
+
+  pub face-quick-push-back-promises : quick-push-back.spec 𝓤 H A mem run ≡ closing 𝓤 H A quick-push-back.ended (λ κs a. record { ghost = Unit {0}; requires = λ _. emp 𝓤; ensures = λ _ r e. fact 𝓤 (outcome (quickPushed r (e .1 .1 .0 .now)) (e .0 .now) (e .1 .0 .now) ≡ quickPushBackFace (a .0 .now) (a .1 .0 .now) (a .1 .1 .0 .now) (a .1 .1 .1 .0) (a .1 .1 .1 .1 .0)) })
+  face-quick-push-back-promises = refl
+
+  pub face-quick-push-front-promises : quick-push-front.spec 𝓤 H A mem run ≡ closing 𝓤 H A quick-push-front.ended (λ κs a. record { ghost = Unit {0}; requires = λ _. emp 𝓤; ensures = λ _ r e. fact 𝓤 (outcome (quickPushed r (e .1 .1 .0 .now)) (e .0 .now) (e .1 .0 .now) ≡ quickPushFrontFace (a .0 .now) (a .1 .0 .now) (a .1 .1 .0 .now) (a .1 .1 .1 .0) (a .1 .1 .1 .1 .0)) })
+  face-quick-push-front-promises = refl
+
+  pub face-quick-pop-back-promises : quick-pop-back.spec 𝓤 H A mem run ≡ closing 𝓤 H A quick-pop-back.ended (λ κs a. record { ghost = Unit {0}; requires = λ _. emp 𝓤; ensures = λ _ r e. fact 𝓤 (outcome (quickPopped r (e .1 .1 .1 .1 .0 .now) (e .1 .1 .0 .now)) (e .0 .now) (e .1 .0 .now) ≡ quickPopBackFace (a .0 .now) (a .1 .0 .now) (a .1 .1 .0 .now) (a .1 .1 .1 .0)) })
+  face-quick-pop-back-promises = refl
+
+  pub face-quick-pop-front-promises : quick-pop-front.spec 𝓤 H A mem run ≡ closing 𝓤 H A quick-pop-front.ended (λ κs a. record { ghost = Unit {0}; requires = λ _. emp 𝓤; ensures = λ _ r e. fact 𝓤 (outcome (quickPopped r (e .1 .1 .1 .1 .0 .now) (e .1 .1 .0 .now)) (e .0 .now) (e .1 .0 .now) ≡ quickPopFrontFace (a .0 .now) (a .1 .0 .now) (a .1 .1 .0 .now) (a .1 .1 .1 .0)) })
+  face-quick-pop-front-promises = refl
 
   pub face-clear-promises : clear.spec 𝓤 H A mem run ≡ closing 𝓤 H A clear.ended (λ κs a. record { ghost = Unit {0}; requires = λ _. emp 𝓤; ensures = λ _ r e. fact 𝓤 (outcome (changed r (placeFrom (e .1 .1 .1 .1 .0 .now)) (e .1 .1 .0 .now)) (e .0 .now) (e .1 .0 .now) ≡ clearFace (a .0 .now) (a .1 .0 .now) (a .1 .1 .0 .now) (a .1 .1 .1 .0)) })
   face-clear-promises = refl

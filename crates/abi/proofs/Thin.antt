@@ -9,6 +9,7 @@ use Rattle.books.specs.declared.Read.{Read}
 use Rattle.books.specs.Place.{Place, placeIn}
 use Rattle.shapes.specs.Tests.{ReadLeft, readLeft}
 use Rattle.faces.specs.Words.{kept}
+use Rattle.faces.specs.Quick.{quickPushed, quickPopped, asQuickPushed, asQuickPopped}
 use Rattle.faces.specs.Face.{prepared, changed, handed, shown, asPrepared, asChanged, asHanded, asShown}
 
 -- setup, which has no place
@@ -27,3 +28,14 @@ module _ (words : List ℕ) {after links values : List ℕ} {number : ℕ} {plac
 
 pub shown-by : {buffer : List ℕ} {r : Read} {o : ReadLeft} → readLeft r buffer ≡ o → shown (r .refusal .number) (placeIn (r .refusal)) (r .count) buffer ≡ asShown o
 shown-by g = ap (λ (x : ReadLeft). asShown x) g
+
+-- ---- the quick functions, which have no place
+
+module _ (words : List ℕ) {after links values : List ℕ} {number : ℕ} where
+  pub quick-pushed-by : {r : Answer} {o : Outcome Answer} → number ≡ r .refusal .number → after ≡ kept (r .refusal .number) words (r .book) → outcome r links values ≡ o
+      → outcome (quickPushed number after) links values ≡ asQuickPushed words o
+  quick-pushed-by {r} e f g = rw e (rw f refl) ∙ ap (λ (x : Outcome Answer). asQuickPushed words x) g
+
+  pub quick-popped-by : {r : Popped} {o : Outcome Popped} {value : ℕ} → number ≡ r .given .refusal .number → value ≡ r .given .value → after ≡ kept (r .given .refusal .number) words (r .book) → outcome r links values ≡ o
+      → outcome (quickPopped number value after) links values ≡ asQuickPopped words o
+  quick-popped-by {r} e v f g = rw (e, v, f) (ap (λ (x : Outcome Popped). asQuickPopped words x) g)

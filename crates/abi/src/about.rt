@@ -1,4 +1,4 @@
-// What firmware asks of the library itself: which version it is, and the text of a number. Neither is one of the ten calls.
+// What firmware asks of the library itself: which version it is, and the text of a number. Neither is one of the calls.
 ghost use mathlib.Core.Path.{_≡_};
 ghost use Rattle.wording.specs.Digits.{Written};
 ghost use Rattle.wording.specs.Texts.{textOf};
@@ -9,7 +9,7 @@ ghost use Rattle.faces.specs.Version.{faceVersion};
 pub extern "C" fn flailreeve_version() -> u16
     ensures { λ r. ⌜ r ≡ faceVersion ⌝ }
 {
-    3
+    4
 }
 
 // The number's text, with no null behind it. Answers how many bytes, or 0 where they do not all fit; nothing is written then.
