@@ -98,12 +98,16 @@ fn ask_setup(desk: &mut Desk, seed: u64, state: u64, size: u64) {
     }
 }
 
-// The call. A value is 0 now and then; a read has room enough, or too little, or begins past the buffer's end.
+// The call. Half of the pushes and pops are quick calls. A value is 0 now and then; a read has room enough, or too little, or begins past the buffer's end.
 pub(crate) fn ask(desk: &mut Desk, seed: u64, state: u64, size: u64) {
     let list = list(seed, get(desk, BOOK, LISTS));
     let kind = match state {
         2 => 0,
         _ => kind(seed, get(desk, NOTES, STEP), size),
+    };
+    let quick = match kind {
+        3 | 4 | 5 | 6 => dice(seed, 34, 2) % 2 * 7,
+        _ => 0,
     };
     let value = dice(seed, 9, dice(seed, 10, 8) << 61);
     let room = plus(get(desk, COUNTS, list), dice(seed, 11, 6));
@@ -111,6 +115,7 @@ pub(crate) fn ask(desk: &mut Desk, seed: u64, state: u64, size: u64) {
     let links = length(seed, 13, state, size);
     let values = length(seed, 14, state, size);
     set_four(desk, NOTES, KIND, kind, list, value, room);
+    set(desk, NOTES, QUICK, quick);
     set_four(desk, NOTES, AT, at, links, values, plus(size, 80));
     ask_setup(desk, seed, state, size);
     set(desk, FRESH, FREE, minus(links, 1));

@@ -172,7 +172,7 @@ fn eight(desk: &Desk, field: u64) -> [u16; 8] {
 
 // The calls that change the pool.
 fn change(links: &mut [u16], values: &mut [u64], desk: &Desk) -> Popped {
-    let kind = get(desk, NOTES, KIND);
+    let kind = plus(get(desk, NOTES, KIND), get(desk, NOTES, QUICK));
     let list = word(desk, NOTES, LIST);
     let value = get(desk, NOTES, PUSHED);
     let before = book(desk);
@@ -188,6 +188,10 @@ fn change(links: &mut [u16], values: &mut [u64], desk: &Desk) -> Popped {
         4 => return answer_of(shares::ends::push_front(links, values, before, list, value)),
         5 => return shares::ends::pop_back(links, values, before, list),
         6 => return shares::ends::pop_front(links, values, before, list),
+        10 => return answer_of(shares::quick::quick_push_back(links, values, before, list, value)),
+        11 => return answer_of(shares::quick::quick_push_front(links, values, before, list, value)),
+        12 => return shares::quick::quick_pop_back(links, values, before, list),
+        13 => return shares::quick::quick_pop_front(links, values, before, list),
         _ => return answer_of(shares::clear::clear(links, values, before, list)),
     }
 }

@@ -68,17 +68,23 @@ fn change_entry(desk: &mut Desk, seed: u64) {
     }
 }
 
-// The length of a list that there is, or the free count.
+// The length of a list that there is, or one of its ends now and then, or the free count.
 fn count(desk: &Desk, seed: u64) -> u64 {
     let lists = get(desk, BOOK, LISTS);
     let list = dice(seed, 31, plus(lists, 1));
+    let die = dice(seed, 35, 8);
+    let word = match die {
+        0 | 1 => die,
+        _ => LENGTH,
+    };
     if list < lists {
-        return ((list & 7) << 3) | LENGTH;
+        return ((list & 7) << 3) | word;
     }
     FREE_COUNT
 }
 
 // A stored count becomes another number. Rule 16 is the last one. By a length of 0 a list lacks its whole share: rule 15 must not go by it.
+// An end may become 0, or the free head: a quick call must see the slots that it would touch for itself.
 fn change_count(desk: &mut Desk, seed: u64, size: u64) {
     let count = count(desk, seed);
     let die = dice(seed, 33, 4);

@@ -95,13 +95,13 @@ fn read(desk: &mut Desk, list: u64, end: u64, many: u64) -> u64 {
     many
 }
 
-// The call that is asked for is done on the deque. Answers the value that it must return, 0 where it returns none. Of the pushes and
-// the pops the even kinds are at the front, of the reads the odd ones.
+// The call that is asked for is done on the deque, and drawn. Answers the value that it must return, 0 where it returns none. Of the pushes
+// and the pops the even kinds are at the front, of the reads the odd ones.
 pub(crate) fn done(desk: &mut Desk, kind: u64) -> u64 {
     let list = get(desk, NOTES, LIST);
     let many = get(desk, COUNTS, list);
     let end = minus(kind & 1, 1);
-    match kind {
+    let value = match kind {
         0 => set_up(desk, get(desk, NOTES, LINKS_LENT)),
         1 => 0,
         2 => many,
@@ -109,7 +109,9 @@ pub(crate) fn done(desk: &mut Desk, kind: u64) -> u64 {
         5 | 6 => pop(desk, list, end),
         7 | 8 => read(desk, list, end ^ FRONT, many),
         _ => clear(desk, list, many),
-    }
+    };
+    draw(desk);
+    value
 }
 
 // A link: the slot before XOR the slot after. A free slot has no slot before.

@@ -63,7 +63,7 @@ pub(crate) const FRESH: u64 = 27;
 // How often each call gave each number: 32 places for each call, and 32 for all of them together.
 pub(crate) const TABLE: u64 = 28;
 
-pub(crate) const ALL: u64 = 10;
+pub(crate) const ALL: u64 = 14;
 
 // Single numbers. The state of the pool is 0 when it is sound, 1 when it is damaged, 2 before its first setup.
 pub(crate) const NOTES: u64 = 29;
@@ -84,7 +84,7 @@ pub(crate) const HURTS: u64 = 6;
 
 pub(crate) const UNSOUND: u64 = 7;
 
-// The call that is asked for. The kinds are the rows of document 01's table, in its order.
+// The call that is asked for. The kinds are the rows of document 01's table, in its order. A quick call has its checked call's kind.
 pub(crate) const KIND: u64 = 8;
 
 pub(crate) const LIST: u64 = 9;
@@ -110,10 +110,19 @@ pub(crate) const TAKEN_BACK: u64 = 17;
 // The call that undoes the last one, if it is the next; else 0.
 pub(crate) const UNDOING: u64 = 18;
 
-// The list and the position of the first broken rule, or 0.
-pub(crate) const FAULT_LIST: u64 = 19;
+// How many rows further down the table the call stands: 7 where it is a quick one, else 0.
+pub(crate) const QUICK: u64 = 19;
 
-pub(crate) const FAULT_POSITION: u64 = 20;
+// The list and the position of the first broken rule, or 0. In the next place 1 where a quick call meets such a pool, so that its cells tell
+// what it must do, and not the deque; else 0.
+pub(crate) const FAULT_LIST: u64 = 20;
+
+pub(crate) const FAULT_POSITION: u64 = 21;
+
+pub(crate) const BY_CELLS: u64 = 22;
+
+// The slots that a quick call would touch.
+pub(crate) const TOUCHED: u64 = 24;
 
 // The pool of before a call by dice, to compare with when that is undone: three rows, as above, and after the book what the call that undoes
 // it must answer.

@@ -3,15 +3,20 @@ use crate::broken;
 use crate::deque;
 use crate::desk::*;
 use crate::out;
+use crate::quick;
 use crate::sound;
 
-// 6 or 7.
-fn push_number(desk: &Desk, list: u64, many: u64) -> u64 {
-    if many == get(desk, BOOK, (list << 3) | LIMIT) {
+// 6 or 7, for a list that holds so many, where so many slots are free and the lists lack so many. Above its limit neither is given.
+pub(crate) fn push_number(desk: &Desk, list: u64, many: u64, free: u64, lacks: u64) -> u64 {
+    let limit = get(desk, BOOK, (list << 3) | LIMIT);
+    if many == limit {
         return 6;
     }
+    if limit < many {
+        return 0;
+    }
     if get(desk, BOOK, (list << 3) | SHARE) <= many {
-        if get(desk, COUNTS, FREE) <= sound::lacks(desk, BOOK, COUNTS) {
+        if free <= lacks {
             return 7;
         }
     }
@@ -19,7 +24,7 @@ fn push_number(desk: &Desk, list: u64, many: u64) -> u64 {
 }
 
 // 5.
-fn pop_number(many: u64) -> u64 {
+pub(crate) fn pop_number(many: u64) -> u64 {
     match many {
         0 => 5,
         _ => 0,
@@ -42,11 +47,12 @@ fn read_number(desk: &Desk, many: u64) -> u64 {
 fn list_number(desk: &Desk, kind: u64) -> u64 {
     let list = get(desk, NOTES, LIST);
     let many = get(desk, COUNTS, list);
+    let free = get(desk, COUNTS, FREE);
     if get(desk, BOOK, LISTS) <= list {
         return 4;
     }
     match kind {
-        3 | 4 => push_number(desk, list, many),
+        3 | 4 => push_number(desk, list, many, free, sound::lacks(desk, BOOK, COUNTS)),
         5 | 6 => pop_number(many),
         7 | 8 => read_number(desk, many),
         _ => 0,
@@ -78,7 +84,7 @@ fn rule_number(desk: &mut Desk, size: u64) -> u64 {
     }
 }
 
-// 9 to 16, and then 4 to 8.
+// 9 to 16, and then 4 to 8. A quick call that meets a broken rule goes by its own ones.
 fn ruled_number(desk: &mut Desk, kind: u64, size: u64) -> u64 {
     let rule = rule_number(desk, size);
     match rule {
@@ -86,7 +92,11 @@ fn ruled_number(desk: &mut Desk, kind: u64, size: u64) -> u64 {
             1 => 0,
             _ => list_number(desk, kind),
         },
-        _ => rule,
+        3 => 3,
+        _ => match get(desk, NOTES, QUICK) {
+            0 => rule,
+            _ => quick::number(desk, kind, size),
+        },
     }
 }
 
@@ -116,10 +126,10 @@ pub(crate) fn compare(desk: &mut Desk, got: u64, wanted: u64) {
     }
 }
 
-// The number that the call must give, and the call done on the deque where that is 0. A refused setup answers with the all-zero book.
+// The number that the call must give, and where that is 0 the call done on the deque, or on the cells where the deque does not tell of them.
+// A refused setup answers with the all-zero book.
 fn expect(desk: &mut Desk, kind: u64) {
-    set(desk, NOTES, FAULT_LIST, 0);
-    set(desk, NOTES, FAULT_POSITION, 0);
+    set_four(desk, NOTES, FAULT_LIST, 0, 0, 0, 0);
     let number = number(desk, kind);
     let list = get(desk, NOTES, FAULT_LIST);
     let position = get(desk, NOTES, FAULT_POSITION);
@@ -127,8 +137,10 @@ fn expect(desk: &mut Desk, kind: u64) {
     set_four(desk, WANTED, NUMBER, number, 0, list, position);
     match number {
         0 => {
-            let value = deque::done(desk, kind);
-            deque::draw(desk);
+            let value = match get(desk, NOTES, BY_CELLS) {
+                0 => deque::done(desk, kind),
+                _ => quick::done(desk, kind),
+            };
             copy(desk, BOOK, WANTED, NUMBER);
             set(desk, WANTED, VALUE, value);
         }
@@ -142,9 +154,10 @@ fn expect(desk: &mut Desk, kind: u64) {
 // What the call left and answered is held to what it must.
 pub(crate) fn judge(desk: &mut Desk) {
     let kind = get(desk, NOTES, KIND);
+    let row = plus(kind, get(desk, NOTES, QUICK));
     let given = get(desk, GOT, NUMBER);
     expect(desk, kind);
-    add_to(desk, TABLE, (kind << 5) | given, 1);
+    add_to(desk, TABLE, (row << 5) | given, 1);
     add_to(desk, TABLE, (ALL << 5) | given, 1);
     compare(desk, GOT, WANTED);
     compare(desk, GOT_LINKS, LINKS);

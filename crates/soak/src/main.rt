@@ -1,4 +1,5 @@
-// Long random sequences of the ten calls on pools of many sizes, against an independent deque, with damage in between and some calls undone.
+// Long random sequences of the ten calls and the four quick ones on pools of many sizes, against an independent deque, with damage in between
+// and some calls undone.
 mod asks;
 mod broken;
 mod calls;
@@ -7,6 +8,7 @@ mod deque;
 mod desk;
 mod expect;
 mod out;
+mod quick;
 mod sound;
 mod undo;
 
@@ -44,7 +46,7 @@ fn turn(desk: &mut Desk) {
             asks::ask(desk, seed, get(desk, NOTES, STATE), size);
             sound::copy_pool(desk, LINKS, KEPT, get(desk, NOTES, SPAN));
         }
-        _ => undo::ask(desk, undoing),
+        _ => undo::ask(desk, seed, undoing),
     }
     calls::make(desk);
     expect::judge(desk);

@@ -80,7 +80,7 @@ fn entry_fits(desk: &Desk, book: u64, counts: u64, list: u64, size: u64) -> bool
 }
 
 // Share less length, or 0.
-fn lack(share: u64, many: u64) -> u64 {
+pub(crate) fn lack(share: u64, many: u64) -> u64 {
     if many < share {
         return share - many;
     }

@@ -6,11 +6,12 @@ use crate::expect;
 const OPPOSITE: [u64; 10] = [0, 0, 0, 5, 6, 3, 4, 0, 0, 0];
 
 // Asks for the call that undoes the last one, and notes after the kept book what it must give: a pop what was pushed, and a push, which
-// puts back what was popped, 0.
-pub(crate) fn ask(desk: &mut Desk, kind: u64) {
+// puts back what was popped, 0. Either may be a quick call, whatever the last one was.
+pub(crate) fn ask(desk: &mut Desk, seed: u64, kind: u64) {
     let pushed = get(desk, NOTES, PUSHED);
     let popped = get(desk, GOT, VALUE);
     set(desk, NOTES, KIND, kind);
+    set(desk, NOTES, QUICK, dice(seed, 34, 2) % 2 * 7);
     match kind {
         5 | 6 => set_four(desk, KEPT + 2, NUMBER, 0, pushed, 0, 0),
         _ => {
@@ -20,10 +21,10 @@ pub(crate) fn ask(desk: &mut Desk, kind: u64) {
     }
 }
 
-// After a call. One by dice that was done is undone next, now and then. One that undid another is held to the pool and the book that were
-// kept: the deque has been asked already, but it may be wrong in the same way as the library.
+// After a call. One by dice that was done on a sound pool is undone next, now and then. One that undid another is held to the pool and the
+// book that were kept: the deque has been asked already, but it may be wrong in the same way as the library.
 pub(crate) fn after(desk: &mut Desk, seed: u64, undoing: u64) {
-    let stays = get(desk, GOT, NUMBER) | dice(seed, 32, 4);
+    let stays = get(desk, GOT, NUMBER) | get(desk, NOTES, BY_CELLS) | dice(seed, 32, 4);
     let kind = (get(desk, NOTES, KIND) % 10) as usize;
     let next = match stays {
         0 => OPPOSITE[kind],

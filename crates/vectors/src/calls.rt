@@ -1,4 +1,4 @@
-// The ten calls. Each writes the number that it gives and what it returns.
+// The ten calls and the four quick ones. Each writes the number that it gives and what it returns.
 use crate::out;
 use books::Answer;
 use books::Book;
@@ -29,6 +29,17 @@ pub(crate) const READ_BACKWARD: u64 = 800000;
 pub(crate) const CLEAR: u64 = 900000;
 
 pub(crate) const LIST_1: u64 = 10000;
+
+// Added to a push or a pop it is the quick call.
+pub(crate) const QUICK: u64 = 1000000;
+
+const QUICK_PUSH_BACK: u64 = QUICK + PUSH_BACK;
+
+const QUICK_PUSH_FRONT: u64 = QUICK + PUSH_FRONT;
+
+const QUICK_POP_BACK: u64 = QUICK + POP_BACK;
+
+const QUICK_POP_FRONT: u64 = QUICK + POP_FRONT;
 
 // The call of a step.
 fn call_of(step: u64) -> u64 {
@@ -77,6 +88,22 @@ pub(crate) fn change(links: &mut [u16], values: &mut [u64], book: Book, step: u6
         PUSH_FRONT => return changed(shares::ends::push_front(links, values, book, list, value)),
         POP_BACK => return popped(shares::ends::pop_back(links, values, book, list)),
         POP_FRONT => return popped(shares::ends::pop_front(links, values, book, list)),
+        QUICK_PUSH_BACK => return changed(shares::quick::quick_push_back(
+            links,
+            values,
+            book,
+            list,
+            value,
+        )),
+        QUICK_PUSH_FRONT => return changed(shares::quick::quick_push_front(
+            links,
+            values,
+            book,
+            list,
+            value,
+        )),
+        QUICK_POP_BACK => return popped(shares::quick::quick_pop_back(links, values, book, list)),
+        QUICK_POP_FRONT => return popped(shares::quick::quick_pop_front(links, values, book, list)),
         _ => return changed(shares::clear::clear(links, values, book, list)),
     }
 }

@@ -26,6 +26,8 @@ const P7: [u8; 16] = *b"P7              ";
 
 const P7_THEN_A_CLEAR: [u8; 16] = *b"P7, then a clear";
 
+const P7_BY_QUICK_CALLS: [u8; 16] = *b"P7, quick calls ";
+
 const P8: [u8; 16] = *b"P8              ";
 
 const P9: [u8; 16] = *b"P9              ";
@@ -35,6 +37,10 @@ const P9_COUNTS_3_AND_0: [u8; 16] = *b"P9, counts 3, 0 ";
 const P9_COUNTS_2_AND_1: [u8; 16] = *b"P9, counts 2, 1 ";
 
 const P9_COUNTS_65535: [u8; 16] = *b"P9, counts 65535";
+
+const P9_QUICK_3_AND_0: [u8; 16] = *b"P9, 3, 0, quick ";
+
+const P9_QUICK_65535: [u8; 16] = *b"P9, 65535, quick";
 
 const P10: [u8; 16] = *b"P10             ";
 
@@ -79,7 +85,7 @@ fn p8() {
 }
 
 // 01 says nothing of P9's counts, so it is tried with several. Its chain is broken whatever they are.
-fn p9(title: [u8; 16], length: u16, count: u16, from: usize) {
+fn p9(title: [u8; 16], length: u16, count: u16, from: usize, to: usize) {
     let mut links = [0u16, 2, 0, 0];
     let mut values = [0u64; 4];
     let entry = Entry {
@@ -91,7 +97,7 @@ fn p9(title: [u8; 16], length: u16, count: u16, from: usize) {
     };
     out::title(title);
     let book = one_list(entry, Free { head: 0, count });
-    steps::run(&mut links, &mut values, book, from, 16);
+    steps::run(&mut links, &mut values, book, from, to);
 }
 
 // A pool of so many slots, of which every cell is 9 before, and on it the steps of `STEPS` from `from` up to `to`.
@@ -128,10 +134,10 @@ fn main() {
     nines(P7, 6, 0, 10);
     nines(P7_THEN_A_CLEAR, 6, 0, 11);
     p8();
-    p9(P9, 0, 0, 11);
-    p9(P9_COUNTS_3_AND_0, 3, 0, 16);
-    p9(P9_COUNTS_2_AND_1, 2, 1, 16);
-    p9(P9_COUNTS_65535, 65535, 65535, 16);
+    p9(P9, 0, 0, 11, 16);
+    p9(P9_COUNTS_3_AND_0, 3, 0, 16, 16);
+    p9(P9_COUNTS_2_AND_1, 2, 1, 16, 16);
+    p9(P9_COUNTS_65535, 65535, 65535, 16, 16);
     nines(P10, 6, 16, 18);
     nines(ONE_SLOT, 1, 18, 19);
     nines(TWO_SLOTS, 2, 18, 19);
@@ -140,5 +146,8 @@ fn main() {
     nines(SHARES_2_AND_3, 6, 19, 20);
     nines(SHARES_3_AND_3, 6, 20, 21);
     nines(LIMIT_0, 6, 21, 24);
+    nines(P7_BY_QUICK_CALLS, 6, 24, 34);
+    p9(P9_QUICK_3_AND_0, 3, 0, 34, 35);
+    p9(P9_QUICK_65535, 65535, 65535, 34, 35);
     broken::rules();
 }

@@ -1,4 +1,5 @@
 // What is written: texts, numbers, cells.
+use crate::calls::QUICK;
 use crate::calls::list_of;
 use crate::calls::value_of;
 use books::Book;
@@ -72,14 +73,17 @@ fn name(row: u64) {
 // A call with its list and its value or place, on a line of its own.
 pub(crate) fn call(step: u64) {
     letter(b'\n');
+    if QUICK <= step {
+        say(b"quick ");
+    }
     name(step / 100000);
     number(wide(list_of(step)));
     number(value_of(step));
 }
 
-// The place of a broken rule. A number below 9 names no rule and has none: a place that it has all the same is shown.
+// The place of a broken rule. A number below 9, and 17, names no rule and has none: a place that it has all the same is shown.
 fn place(refusal: Refusal) {
-    if refusal.number < 9 && refusal.list | refusal.position == 0 {
+    if refusal.number % 17 < 9 && refusal.list | refusal.position == 0 {
         return;
     }
     text(AT_LIST);

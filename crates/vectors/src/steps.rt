@@ -8,6 +8,7 @@ use crate::calls::POP_BACK;
 use crate::calls::POP_FRONT;
 use crate::calls::PUSH_BACK;
 use crate::calls::PUSH_FRONT;
+use crate::calls::QUICK;
 use crate::calls::READ_BACKWARD;
 use crate::calls::READ_FORWARD;
 use crate::calls::SETUP;
@@ -15,7 +16,7 @@ use crate::out;
 use books::Book;
 
 // A setup has its lists for the list, and four digits for the shares and the limits of the first two.
-const STEPS: [u64; 24] = [
+const STEPS: [u64; 35] = [
     // P1
     SETUP + 22153,
     // P2
@@ -53,6 +54,19 @@ const STEPS: [u64; 24] = [
     SETUP + 10000,
     PUSH_BACK + 5,
     PUSH_FRONT + 5,
+    // P1 to P7 once more, by quick calls.
+    SETUP + 22153,
+    QUICK + PUSH_BACK + 20,
+    QUICK + PUSH_BACK + 30,
+    QUICK + PUSH_FRONT + 10,
+    QUICK + PUSH_BACK + 40,
+    QUICK + PUSH_BACK + 50,
+    QUICK + PUSH_BACK + LIST_1 + 60,
+    QUICK + PUSH_BACK + LIST_1 + 61,
+    QUICK + POP_FRONT,
+    QUICK + PUSH_BACK + LIST_1 + 61,
+    // P9 by a quick call, which does not check the chain.
+    QUICK + POP_BACK,
 ];
 
 // What is asked of every pool at its end: check, the length and both readings of the first two lists, and both readings of list 0 at the
@@ -72,7 +86,7 @@ const LOOKS: [u64; 11] = [
 ];
 
 fn step(k: usize) -> u64 {
-    if k < 24 {
+    if k < 35 {
         return STEPS[k];
     }
     0
