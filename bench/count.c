@@ -1,4 +1,4 @@
-/* The counted program of the ten calls: `count WORK N HELD LISTS TIMES` does one piece of work so many times. Two runs that differ in
+/* The counted program of the fourteen calls: `count WORK N HELD LISTS TIMES` does one piece of work so many times. Two runs that differ in
  * TIMES alone differ by the instructions of that work and of the loop around it; over bench/nothing.c by the loop's alone. So the
  * loop must not depend on what the calls do: the pools are made before it, without a call, and the answers are looked at after it. */
 #include <stdlib.h>
@@ -41,49 +41,130 @@ static void fill(struct pool *pool, size_t n, size_t held, uint16_t lists)
     must(flailreeve_check(pool->links, n, pool->values, n, &pool->book, &place));
 }
 
-int main(int argc, char **argv)
+/* What is counted, one function for each kind of work. `n` and `lists` are those of the pools. */
+struct asked {
+    size_t n;
+    uint16_t lists;
+    int times;
+};
+
+static unsigned pair(const struct asked *ask)
 {
-    size_t n, held;
-    uint16_t lists, small;
+    struct pool *pool = pools;
     uint64_t value;
     unsigned numbers = 0;
-    int times;
+
+    for (int i = 0; i < ask->times; i++) {
+        numbers |= flailreeve_push_back(pool->links, ask->n, pool->values, ask->n, &pool->book, 0, (uint64_t)i + 1, &place);
+        numbers |= flailreeve_pop_front(pool->links, ask->n, pool->values, ask->n, &pool->book, 0, &value, &place);
+    }
+    return numbers;
+}
+
+static unsigned quick(const struct asked *ask)
+{
     struct pool *pool = pools;
+    uint64_t value;
+    unsigned numbers = 0;
+
+    for (int i = 0; i < ask->times; i++) {
+        numbers |= flailreeve_quick_push_back(pool->links, ask->n, pool->values, ask->n, &pool->book, 0, (uint64_t)i + 1);
+        numbers |= flailreeve_quick_pop_front(pool->links, ask->n, pool->values, ask->n, &pool->book, 0, &value);
+    }
+    return numbers;
+}
+
+/* The other two ends. */
+static unsigned quick_other(const struct asked *ask)
+{
+    struct pool *pool = pools;
+    uint64_t value;
+    unsigned numbers = 0;
+
+    for (int i = 0; i < ask->times; i++) {
+        numbers |= flailreeve_quick_push_front(pool->links, ask->n, pool->values, ask->n, &pool->book, 0, (uint64_t)i + 1);
+        numbers |= flailreeve_quick_pop_back(pool->links, ask->n, pool->values, ask->n, &pool->book, 0, &value);
+    }
+    return numbers;
+}
+
+static unsigned check(const struct asked *ask)
+{
+    struct pool *pool = pools;
+    unsigned numbers = 0;
+
+    for (int i = 0; i < ask->times; i++)
+        numbers |= flailreeve_check(pool->links, ask->n, pool->values, ask->n, &pool->book, &place);
+    return numbers;
+}
+
+static unsigned length(const struct asked *ask)
+{
+    struct pool *pool = pools;
+    uint16_t small;
+    unsigned numbers = 0;
+
+    for (int i = 0; i < ask->times; i++)
+        numbers |= flailreeve_length(pool->links, ask->n, pool->values, ask->n, &pool->book, 0, &small, &place);
+    return numbers;
+}
+
+static unsigned read(const struct asked *ask)
+{
+    struct pool *pool = pools;
+    uint16_t small;
+    unsigned numbers = 0;
+
+    for (int i = 0; i < ask->times; i++)
+        numbers |= flailreeve_read_forward(pool->links, ask->n, pool->values, ask->n, &pool->book, 0, out, ask->n, 0, &small, &place);
+    return numbers;
+}
+
+static unsigned clear(const struct asked *ask)
+{
+    unsigned numbers = 0;
+
+    for (int i = 0; i < ask->times; i++)
+        numbers |= flailreeve_clear(pools[i].links, ask->n, pools[i].values, ask->n, &pools[i].book, 0, &place);
+    return numbers;
+}
+
+static unsigned setup(const struct asked *ask)
+{
+    struct pool *pool = pools;
+    unsigned numbers = 0;
+
+    for (int i = 0; i < ask->times; i++)
+        numbers |= flailreeve_setup(pool->links, ask->n, pool->values, ask->n, ask->lists, shares, limits, &pool->book);
+    return numbers;
+}
+
+static const struct {
+    const char *name;
+    unsigned (*done)(const struct asked *ask);
+} works[] = {{"pair", pair}, {"quick", quick}, {"quick-other", quick_other}, {"check", check}, {"length", length},
+             {"read", read}, {"clear", clear}, {"setup", setup}};
+
+int main(int argc, char **argv)
+{
+    struct asked ask;
+    size_t held, work = 0;
 
     if (argc != 6)
         return 2;
-    n = strtoul(argv[2], NULL, 10);
+    ask.n = strtoul(argv[2], NULL, 10);
     held = strtoul(argv[3], NULL, 10);
-    lists = (uint16_t)atoi(argv[4]);
-    times = atoi(argv[5]);
-    if (n > FLAILREEVE_LARGEST_POOL || held >= n || times > POOLS)
+    ask.lists = (uint16_t)atoi(argv[4]);
+    ask.times = atoi(argv[5]);
+    if (ask.n > FLAILREEVE_LARGEST_POOL || held >= ask.n || ask.times > POOLS)
         return 2;
-    limits[0] = (uint16_t)(n - 1);
-    for (int i = 0; i < (strcmp(argv[1], "clear") == 0 ? POOLS : 1); i++)
-        fill(&pools[i], n, held, lists);
-    if (strcmp(argv[1], "pair") == 0) {
-        for (int i = 0; i < times; i++) {
-            numbers |= flailreeve_push_back(pool->links, n, pool->values, n, &pool->book, 0, (uint64_t)i + 1, &place);
-            numbers |= flailreeve_pop_front(pool->links, n, pool->values, n, &pool->book, 0, &value, &place);
-        }
-    } else if (strcmp(argv[1], "check") == 0) {
-        for (int i = 0; i < times; i++)
-            numbers |= flailreeve_check(pool->links, n, pool->values, n, &pool->book, &place);
-    } else if (strcmp(argv[1], "length") == 0) {
-        for (int i = 0; i < times; i++)
-            numbers |= flailreeve_length(pool->links, n, pool->values, n, &pool->book, 0, &small, &place);
-    } else if (strcmp(argv[1], "read") == 0) {
-        for (int i = 0; i < times; i++)
-            numbers |= flailreeve_read_forward(pool->links, n, pool->values, n, &pool->book, 0, out, n, 0, &small, &place);
-    } else if (strcmp(argv[1], "clear") == 0) {
-        for (int i = 0; i < times; i++)
-            numbers |= flailreeve_clear(pools[i].links, n, pools[i].values, n, &pools[i].book, 0, &place);
-    } else if (strcmp(argv[1], "setup") == 0) {
-        for (int i = 0; i < times; i++)
-            numbers |= flailreeve_setup(pool->links, n, pool->values, n, lists, shares, limits, &pool->book);
-    } else {
+    while (work < sizeof works / sizeof works[0] && strcmp(argv[1], works[work].name) != 0)
+        work++;
+    if (work == sizeof works / sizeof works[0])
         return 2;
-    }
-    must(numbers);
+    limits[0] = (uint16_t)(ask.n - 1);
+    for (int i = 0; i < (works[work].done == clear ? POOLS : 1); i++)
+        fill(&pools[i], ask.n, held, ask.lists);
+    must(works[work].done(&ask));
     return 0;
 }

@@ -1,4 +1,4 @@
-/* The ten calls and a queue that do nothing but return: what is counted over them is the bench's own loop, the arguments, the call
+/* The fourteen calls and a queue that do nothing but return: what is counted over them is the bench's own loop, the arguments, the call
  * and the return, and bench/run subtracts it. A number is 0, so that the loop goes on as it does over a library that works. */
 #include "flailreeve.h"
 #include "queue.h"
@@ -65,6 +65,30 @@ uint16_t flailreeve_read_backward(const uint16_t *links, size_t links_len, const
 
 uint16_t flailreeve_clear(uint16_t *links, size_t links_len, uint64_t *values, size_t values_len,
                           struct flailreeve_book *book, uint16_t list, struct flailreeve_place *place)
+{
+    return 0;
+}
+
+uint16_t flailreeve_quick_push_back(uint16_t *links, size_t links_len, uint64_t *values, size_t values_len,
+                                    struct flailreeve_book *book, uint16_t list, uint64_t value)
+{
+    return 0;
+}
+
+uint16_t flailreeve_quick_push_front(uint16_t *links, size_t links_len, uint64_t *values, size_t values_len,
+                                     struct flailreeve_book *book, uint16_t list, uint64_t value)
+{
+    return 0;
+}
+
+uint16_t flailreeve_quick_pop_back(uint16_t *links, size_t links_len, uint64_t *values, size_t values_len,
+                                   struct flailreeve_book *book, uint16_t list, uint64_t *value)
+{
+    return 0;
+}
+
+uint16_t flailreeve_quick_pop_front(uint16_t *links, size_t links_len, uint64_t *values, size_t values_len,
+                                    struct flailreeve_book *book, uint16_t list, uint64_t *value)
 {
     return 0;
 }

@@ -1,4 +1,4 @@
-/* The counted program of the heap list and of std::deque: `queue WORK N HELD LISTS TIMES`, as bench/count.c is for the ten calls. N
+/* The counted program of the heap list and of std::deque: `queue WORK N HELD LISTS TIMES`, as bench/count.c is for the fourteen calls. N
  * and LISTS change nothing. Over bench/nothing.c it counts the loop and the calls alone. */
 #include <stdlib.h>
 #include <string.h>

@@ -1,4 +1,5 @@
-/* Flailreeve's C face: lists for PIN pad firmware in one pool of memory that the firmware lends. Ten calls.
+/* Flailreeve's C face: lists for PIN pad firmware in one pool of memory that the firmware lends. Ten calls, and four
+ * quick ones that do not check the pool.
  *
  * For C11 and C++17. The functions stand in an archive, libflailreeve.a; tools/archive builds it and prints its path. It is what
  * the proved crate `abi` is compiled to, uses no heap, keeps nothing between calls, and asks of the C library for memset
@@ -20,24 +21,39 @@
  * where the pool is sound, and only a call's check vouches for that; flailreeve_length checks, and then gives the book's word.
  *
  * THE NUMBER. Every call returns one: 0 when the call was done, else the reason why it was refused. The tests run in one
- * order, and the first that applies is given: 1, then 2 in setup; in the other calls 1, then 9 to 16, then 4 to 8. The numbers
- * from 9 to 16 say which rule of a sound pool is broken. A REFUSED CALL writes 0 to `length`, `value` or `count`, where it has
- * one; and to `place`, where it has one, the list and the position that the number sets, 0 where it sets none. It changes
- * nothing else: not a link, not a value, not the book, not the buffer of a read.
+ * order, and the first that applies is given: 1, then 2 in setup; in the other calls 1, then 9 to 16, then 4 to 8; the quick
+ * calls have an order of their own, below. The numbers from 9 to 16 say which rule of a sound pool is broken. A REFUSED CALL
+ * writes 0 to `length`, `value` or `count`, where it has one; and to `place`, where it has one, the list and the position that the
+ * number sets, 0 where it sets none. It changes nothing else: not a link, not a value, not the book, not the buffer of a read.
  *
- * THE PLACE. Every call but setup writes one to `place`, whatever number it returns: a list and a position, which say where
- * the pool is broken. A word that says nothing is 0. So both are 0 with 0, 1, 4 to 8, 9 and 10. With 11 the place is a list
- * and a position in its chain, counted from 0 at the head. With 12 it is a position in the free chain. With 13 and 14 the
- * position is a slot. With 15 it is the lowest list over its limit, or the number of lists where none is but the shares are not
- * covered. With 16 it is the lowest list whose length in the book is wrong, or the number of lists where only the free count is.
- * The list is 0 with 12, 13 and 14, and the position is 0 with 15 and 16. The firmware saves the place with the number, for field
- * service, and need not act on it.
+ * THE PLACE. Every call but setup and the quick ones writes one to `place`, whatever number it returns: a list and a position,
+ * which say where the pool is broken. A word that says nothing is 0. So both are 0 with 0, 1, 4 to 8, 9 and 10. With 11 the place
+ * is a list and a position in its chain, counted from 0 at the head. With 12 it is a position in the free chain. With 13 and 14
+ * the position is a slot. With 15 it is the lowest list over its limit, or the number of lists where none is but the shares are
+ * not covered. With 16 it is the lowest list whose length in the book is wrong, or the number of lists where only the free count
+ * is. The list is 0 with 12, 13 and 14, and the position is 0 with 15 and 16. The firmware saves the place with the number, for
+ * field service, and need not act on it.
+ *
+ * THE QUICK CALLS are a push and a pop at each end. A quick call does not go along the chains, so that its cost does not depend on
+ * N. On a sound pool it gives the number and the value of the checked call, and leaves the same links, values and book. On any
+ * other it takes the counts in the book as they are. It gives 1; 17 where the number of lists is not 1 to 8; 4; 17 where the
+ * length of one of the lists, or the free count, is above N-1; 5, 6 or 7, by these counts; then 17 for the rest, else 0.
+ * - What it sees, before it stores anything: a slot whose cells it would read or write and that is not from 1 to N-1; two such
+ *   slots that a sound pool keeps apart and that are the same; a count that would go below 0 or above N-1. These are the rest.
+ *   So whatever the memory holds, it touches no cell outside slots 1 to N-1.
+ * - What it does not see: a head, a tail, a free head or a link that is wrong and yet a slot of the pool or 0, a slot that two
+ *   chains have or none has, a free slot that is not wiped, slot 0, a number of lists or a count that is wrong and yet not too
+ *   large, shares and limits that break the rules. On such a pool it may be done, and then a list may lose elements, which stay
+ *   in memory, get those of another, or hand out a 0 that nobody pushed; and 4 to 7 may be given where nothing stands in the way.
+ * It gives none of 9 to 16 and has no place. 17 is never given for a sound pool, so after it flailreeve_check says which rule is
+ * broken, and where. Firmware that uses quick calls makes a check where there is time, as at a start or when no key is pressed.
  *
  * A BOUNCED KEY may be treated, as far as the pool and the book go, as if it had never been pressed. After a push that
  * returned 0, a pop at the same end of that list returns 0 with the value that was pushed, and every link, every value and
  * every word of the book, the counts among them, is as it was before the push. After a pop that returned 0, a push of its value
  * at the same end of that list returns 0, never 6 or 7, and all is as it was before the pop. This holds where nothing changes
- * the pool or the book between the two. The value then stands where the pop wrote it, for the firmware to wipe.
+ * the pool or the book between the two; of quick calls, one or both of the two, where the pool was sound before. The value then
+ * stands where the pop wrote it, for the firmware to wipe.
  *
  * WHAT THE CALLER OWES. A call believes these, and no proof can see them; if one does not hold, the behaviour is undefined.
  * - No pointer is null, not even with a length of 0, and each is aligned: to 2 bytes for links, shares, limits, the book,
@@ -49,10 +65,10 @@
  * - No other thread and no interrupt handler touches these buffers while the call runs. Calls on different pools may run
  *   at the same time: nothing is shared.
  * - There is stack enough: a call uses up to 4.5 KiB (docs/SPEED.md has the bytes of each).
- * WHAT THE CALLER DOES NOT OWE. What the cells and the book hold may be anything: every call but setup checks the whole pool
- * before it acts, in time in proportion to N, and refuses by 9 to 16 one that is not sound. Damage that leaves it sound, as
- * another value in a list's slot, is not seen. What `place` held does not matter. List numbers, `at` and values may be anything
- * too. Every call ends.
+ * WHAT THE CALLER DOES NOT OWE. What the cells and the book hold may be anything: every call but setup and the quick ones checks
+ * the whole pool before it acts, in time in proportion to N, and refuses by 9 to 16 one that is not sound. Damage that leaves it
+ * sound, as another value in a list's slot, is not seen. What `place` held does not matter. List numbers, `at` and values may be
+ * anything too. Every call ends.
  *
  * A RESET OR A POWER LOSS IN MID-CALL leaves what was stored until then, and no call undoes it. Where the memory kept what it
  * held, flailreeve_check tells whether the pool is sound; a sound pool may still have the last call done, not done, or an
@@ -60,17 +76,17 @@
  * memory holds, and wipes every slot.
  *
  * WHAT IS LEFT TO THE FIRMWARE TO WIPE. The value that it hands to a push, in its own variables and, it being the seventh
- * argument, on its own stack; a value that a pop hands out; the copies that a read writes; and registers: after a done pop r8
- * holds the value, and after a done push at the front r10 does, until something else is put there. After the other done calls
- * no register does. In the dead stack below the caller no call, done or refused, leaves a copy of a block that it was lent or
- * handed. But a call saves there the registers that it must keep for its caller (rbx, rbp, r12 to r15), so a block that the
- * caller itself has in one of them is left there too. This is measured on the compiled archive, at every byte, and not
- * proved. */
+ * argument, on its own stack; a value that a pop hands out; the copies that a read writes; and registers: after a done checked
+ * pop r8 holds the value, and after a done push at the front or a done quick push r10 does, until something else is put there.
+ * After the other done calls no register does. In the dead stack below the caller no call, done or refused, leaves a copy of a
+ * block that it was lent or handed. But a call saves there the registers that it must keep for its caller (rbx, rbp, r12 to
+ * r15), so a block that the caller itself has in one of them is left there too. This is measured on the compiled archive, at
+ * every byte, and not proved. */
 #ifndef FLAILREEVE_H
 #define FLAILREEVE_H
 
 #if !defined(FLAILREEVE_PLAIN_C) && (!defined(__x86_64__) || defined(_WIN32))
-#error "libflailreeve.a is for x86-64 and System V alone; elsewhere compile bench/plain/flailreeve.c and define FLAILREEVE_PLAIN_C"
+#error "libflailreeve.a is for x86-64 and System V alone; elsewhere compile bench/plain/*.c and define FLAILREEVE_PLAIN_C"
 #endif
 
 #include <stddef.h>
@@ -89,7 +105,7 @@ enum {
 
 /* The version of this header. It is raised when a function, the book or the meaning of a number changes. An archive answers
  * by flailreeve_version which header it is for; firmware asks once, before it calls anything else. */
-#define FLAILREEVE_VERSION 3
+#define FLAILREEVE_VERSION 4
 
 /* The numbers that a call returns, and what to do about each. docs/REFUSALS.md has the same for field service. */
 enum {
@@ -99,7 +115,7 @@ enum {
     FLAILREEVE_REFUSED_RULES = 2,    /* setup's lists, shares or limits break the rules of the book. Ask for less */
     FLAILREEVE_REFUSED_UNSOUND = 3,  /* given by no call from version 2 on: 9 to 16 say which rule is broken */
     FLAILREEVE_REFUSED_NO_LIST = 4,  /* the list number is not below the number of lists. The call is written wrongly */
-    FLAILREEVE_REFUSED_EMPTY = 5,    /* the list is empty. Nothing is wrong: there is nothing to take */
+    FLAILREEVE_REFUSED_EMPTY = 5,    /* the list is empty: there is nothing to take. A quick call believes the book */
     FLAILREEVE_REFUSED_LIMIT = 6,    /* the list's length equals its limit. Take something out first, or drop the value */
     FLAILREEVE_REFUSED_KEPT = 7,     /* the list is under its limit but has its share, and no slot is free but those that the
                                         other lists still lack of theirs. As with 6, or wait until another list has less */
@@ -123,8 +139,11 @@ enum {
     FLAILREEVE_UNWIPED_SLOT = 14,      /* a free slot's value is not 0: the position is the slot. Save what wrote last */
     FLAILREEVE_OVER_LIMIT = 15,        /* a list is longer than its limit, or the free slots do not cover the shares: the list,
                                           or the number of lists. Save the links and the book's 43 words */
-    FLAILREEVE_WRONG_COUNT = 16        /* a list's length in the book is wrong, or the free count is: the list, or the number of
+    FLAILREEVE_WRONG_COUNT = 16,       /* a list's length in the book is wrong, or the free count is: the list, or the number of
                                           lists. Save the links and the book's 43 words, and whether a setup was cut short */
+
+    FLAILREEVE_REFUSED_QUICK = 17      /* a quick call met a count or a slot that no sound pool has. Call flailreeve_check, and
+                                          do as with the number that it gives, which is one of 9 to 16 */
 };
 
 /* Where a pool is broken: two words, no padding. THE PLACE above says what they hold. */
@@ -307,7 +326,44 @@ FLAILREEVE_CALL uint16_t flailreeve_read_backward(const uint16_t *links, size_t 
 FLAILREEVE_CALL uint16_t flailreeve_clear(uint16_t *links, size_t links_len, uint64_t *values, size_t values_len,
                                           struct flailreeve_book *book, uint16_t list, struct flailreeve_place *place);
 
-/* ---- beside the ten calls */
+/* Quick push back: as push back, without the check. THE QUICK CALLS above says what it does not see.
+ *
+ * Gives 0: the value is in the slot that was the free head, and that slot is the list's last. Where the tail was 0, it is the
+ * first too, whatever the head was.
+ * Gives 1: the lengths differ, or N is under 2 or over 4,096.
+ * Gives 4: there is no list of that number.
+ * Gives 6: the list's length, as the book has it, equals its limit.
+ * Gives 7: it is under the limit and not under the share, and the free count is no more than what the lists lack of their
+ * shares, all by the book.
+ * Gives 17: the number of lists is not 1 to 8, and then 4 is not asked; a list's length or the free count is above N-1, and then
+ * 6 and 7 are not asked; or the free head, or the tail where it is not 0, is not from 1 to N-1; the two are the same; the length
+ * is N-1, or the free count 0.
+ * Refused, it changes nothing. */
+FLAILREEVE_CALL uint16_t flailreeve_quick_push_back(uint16_t *links, size_t links_len, uint64_t *values, size_t values_len,
+                                                    struct flailreeve_book *book, uint16_t list, uint64_t value);
+
+/* Quick push front: as quick push back, at the other end. The tail alone says whether the list is empty; where it is not 0, the
+ * head is tested in its place, and a head of 0 gives 17. */
+FLAILREEVE_CALL uint16_t flailreeve_quick_push_front(uint16_t *links, size_t links_len, uint64_t *values, size_t values_len,
+                                                     struct flailreeve_book *book, uint16_t list, uint64_t value);
+
+/* Quick pop back: as pop back, without the check.
+ *
+ * Gives 0, and the value of the tail's slot in `*value`. The slot holds 0 and is the free head. Where its link was 0, head and
+ * tail are 0.
+ * Gives 1, 4: as quick push back.
+ * Gives 5: the list's length, as the book has it, is 0.
+ * Gives 17: as quick push back, before 4 and before 5; or the tail, or its link where it is not 0, is not from 1 to N-1; the two
+ * are the same; the free count is N-1.
+ * Refused, it writes 0 to `*value` and changes nothing else. */
+FLAILREEVE_CALL uint16_t flailreeve_quick_pop_back(uint16_t *links, size_t links_len, uint64_t *values, size_t values_len,
+                                                   struct flailreeve_book *book, uint16_t list, uint64_t *value);
+
+/* Quick pop front: as quick pop back, at the other end: the head in place of the tail. */
+FLAILREEVE_CALL uint16_t flailreeve_quick_pop_front(uint16_t *links, size_t links_len, uint64_t *values, size_t values_len,
+                                                    struct flailreeve_book *book, uint16_t list, uint64_t *value);
+
+/* ---- beside the fourteen calls */
 
 /* The version of the header that the archive is for: FLAILREEVE_VERSION, or the two do not fit. */
 uint16_t flailreeve_version(void);

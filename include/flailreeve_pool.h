@@ -1,5 +1,5 @@
-/* For those who would rather not write four arguments each time: a pool as one struct, and the ten calls over it, inline. It adds
- * nothing to flailreeve.h, which says what each call does and gives, and what the caller owes; C11 and C++17.
+/* For those who would rather not write four arguments each time: a pool as one struct, and the fourteen calls over it, inline. It
+ * adds nothing to flailreeve.h, which says what each call does and gives, and what the caller owes; C11 and C++17.
  *
  * Where the compiler does not compile these into their caller, as without optimisation, each is a function, and its frame keeps
  * a copy of the value that a push is handed. The measurements of the stack are of flailreeve.h's functions. */
@@ -87,6 +87,30 @@ FLAILREEVE_INLINE uint16_t flailreeve_pool_clear(const struct flailreeve_pool *p
                                                  uint16_t list, struct flailreeve_place *place)
 {
     return flailreeve_clear(pool->links, pool->links_len, pool->values, pool->values_len, book, list, place);
+}
+
+FLAILREEVE_INLINE uint16_t flailreeve_pool_quick_push_back(const struct flailreeve_pool *pool, struct flailreeve_book *book,
+                                                           uint16_t list, uint64_t value)
+{
+    return flailreeve_quick_push_back(pool->links, pool->links_len, pool->values, pool->values_len, book, list, value);
+}
+
+FLAILREEVE_INLINE uint16_t flailreeve_pool_quick_push_front(const struct flailreeve_pool *pool, struct flailreeve_book *book,
+                                                            uint16_t list, uint64_t value)
+{
+    return flailreeve_quick_push_front(pool->links, pool->links_len, pool->values, pool->values_len, book, list, value);
+}
+
+FLAILREEVE_INLINE uint16_t flailreeve_pool_quick_pop_back(const struct flailreeve_pool *pool, struct flailreeve_book *book,
+                                                          uint16_t list, uint64_t *value)
+{
+    return flailreeve_quick_pop_back(pool->links, pool->links_len, pool->values, pool->values_len, book, list, value);
+}
+
+FLAILREEVE_INLINE uint16_t flailreeve_pool_quick_pop_front(const struct flailreeve_pool *pool, struct flailreeve_book *book,
+                                                           uint16_t list, uint64_t *value)
+{
+    return flailreeve_quick_pop_front(pool->links, pool->links_len, pool->values, pool->values_len, book, list, value);
 }
 
 #undef FLAILREEVE_INLINE

@@ -1,10 +1,9 @@
 /* The ten calls in plain C, as a careful firmware engineer would write them, with the version and the texts: what the archive's cost
  * is held against, and what the faults of tests/c are planted in. The check is one pass over the pool and hands on what it found in
  * registers; the lengths it leaves in the book, where a call finds them. A call stores to no cell twice, and clears nothing that it
- * writes anyway. Where a pool is broken is worked out only when it is. */
-#include "flailreeve.h"
+ * writes anyway. Where a pool is broken is worked out only when it is. The four quick calls stand in quick.c. */
+#include "plain.h"
 
-#include <stdbool.h>
 #include <string.h>
 
 /* What a look at the pool found. It is two machine words, so that it is handed back in registers. */
@@ -12,13 +11,6 @@ struct found {
     size_t number; /* 0, or why the call is refused: 1, 9 to 16 or 4 */
     size_t spare;  /* free slots beyond those that lists still lack of their shares */
 };
-
-enum end { FRONT, BACK };
-
-static bool sizes_fit(size_t links_len, size_t values_len)
-{
-    return links_len == values_len && links_len >= FLAILREEVE_SMALLEST_POOL && links_len <= FLAILREEVE_LARGEST_POOL;
-}
 
 static struct found refused(size_t number, size_t list, size_t position, struct flailreeve_place *place)
 {
@@ -384,6 +376,7 @@ size_t flailreeve_text(uint16_t number, uint8_t *out, size_t out_len)
         "a free slot is not wiped",
         "a list is over its limit, or the shares are not covered",
         "a stored count is wrong",
+        "a quick call cannot trust the book or a slot",
     };
     const char *text = "this version does not know the number";
     size_t bytes;

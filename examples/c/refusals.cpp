@@ -22,7 +22,7 @@ void show(const char *what, uint16_t number)
     const size_t bytes = flailreeve_text(number, text, sizeof text);
 
     std::printf("%-46s %2u %.*s", what, number, static_cast<int>(bytes), reinterpret_cast<const char *>(text));
-    if (number >= FLAILREEVE_BROKEN_BOOK)
+    if (number >= FLAILREEVE_BROKEN_BOOK && number <= FLAILREEVE_WRONG_COUNT)
         std::printf(": list %u, position %u", place.list, place.position);
     std::printf("\n");
 }
@@ -52,6 +52,10 @@ int main()
     show("read of two values into one cell", flailreeve_pool_read_forward(&pool, &book, 0, out, 1, 0, &count, &place));
     values[3] = 1; // slot 3 is free, and something wrote to it
     show("length, after a free slot was written to", flailreeve_pool_length(&pool, &book, 0, &count, &place));
+    show("quick pop, which does not look there", flailreeve_pool_quick_pop_front(&pool, &book, 0, &value));
+    book.list[0].head = slots; // and something wrote to the book
+    show("quick pop, where the head is no slot", flailreeve_pool_quick_pop_front(&pool, &book, 0, &value));
+    show("check, which says where it is broken", flailreeve_pool_check(&pool, &book, &place));
     show("setup again, which wipes every slot", flailreeve_pool_setup(&pool, 3, shares, limits, &book));
     return 0;
 }

@@ -1,4 +1,4 @@
-// Beside the ten calls: the version, the text of every number against crates/notices/stdout at every length of the buffer, and
+// Beside the fourteen calls: the version, the text of every number against crates/notices/stdout at every length of the buffer, and
 // the calls over a pool as one struct against those of flailreeve.h. Usage: about NOTICES
 #include "flailreeve_pool.h"
 
@@ -24,7 +24,7 @@ void must_be(const char *what, unsigned long got, unsigned long wanted)
 }
 
 // The last number that has a text of its own. What the numbers above it show stands in the notices under the next and under 65,535.
-constexpr unsigned last_number = FLAILREEVE_WRONG_COUNT;
+constexpr unsigned last_number = FLAILREEVE_REFUSED_QUICK;
 
 // The notices, "number: text" a line.
 std::map<unsigned, std::string> read_notices(const char *file)
@@ -122,6 +122,12 @@ void by_arguments(ground &g)
     note(g, value);
     note(g, flailreeve_read_backward(g.links, 8, g.values, 8, &g.book, 0, g.out, 8, 4, &count, &g.place));
     note(g, count);
+    note(g, flailreeve_quick_push_back(g.links, 8, g.values, 8, &g.book, 1, 300));
+    note(g, flailreeve_quick_push_front(g.links, 8, g.values, 8, &g.book, 0, 400));
+    note(g, flailreeve_quick_pop_back(g.links, 8, g.values, 8, &g.book, 0, &value));
+    note(g, value);
+    note(g, flailreeve_quick_pop_front(g.links, 8, g.values, 8, &g.book, 1, &value));
+    note(g, value);
     note(g, flailreeve_clear(g.links, 8, g.values, 8, &g.book, 1, &g.place));
     g.values[g.book.free_head] = 1;
     note(g, flailreeve_check(g.links, 8, g.values, 8, &g.book, &g.place));
@@ -156,6 +162,12 @@ void by_struct(ground &g)
     note(g, value);
     note(g, flailreeve_pool_read_backward(&pool, &g.book, 0, g.out, 8, 4, &count, &g.place));
     note(g, count);
+    note(g, flailreeve_pool_quick_push_back(&pool, &g.book, 1, 300));
+    note(g, flailreeve_pool_quick_push_front(&pool, &g.book, 0, 400));
+    note(g, flailreeve_pool_quick_pop_back(&pool, &g.book, 0, &value));
+    note(g, value);
+    note(g, flailreeve_pool_quick_pop_front(&pool, &g.book, 1, &value));
+    note(g, value);
     note(g, flailreeve_pool_clear(&pool, &g.book, 1, &g.place));
     g.values[g.book.free_head] = 1;
     note(g, flailreeve_pool_check(&pool, &g.book, &g.place));
@@ -180,7 +192,7 @@ void both_forms()
     by_struct(other);
     if (std::memcmp(&one, &other, sizeof one) != 0)
         fail("the calls over a pool as one struct", "they leave something else");
-    std::printf("the calls over a pool as one struct leave what the ten calls leave\n");
+    std::printf("the calls over a pool as one struct leave what the fourteen calls leave\n");
 }
 
 } // namespace

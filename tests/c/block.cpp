@@ -1,7 +1,8 @@
 // Where the block goes. A 64-bit block that nothing else holds is put wherever it can be when a call is made: into a list, into
-// a push's argument, into the words and buffers that are lent, into a damaged pool's free slots. After every one of the ten calls,
-// done or refused, the dead stack below the caller is searched for it; after setup, a pop and a clear both lent buffers and the
-// book are too. It shows the counts, how deep each call's stack went, and which registers hold the block when a call returns.
+// a push's argument, into the words and buffers that are lent, into a damaged pool's free slots. After every one of the fourteen
+// calls, done or refused, the dead stack below the caller is searched for it; after setup, a pop and a clear both lent buffers
+// and the book are too. It shows the counts, how deep each call's stack went, and which registers hold the block when a call
+// returns.
 //
 //     block           shows how many copies lie in the dead stack
 //     block FILE      and holds every case to no more of them than FILE says, which is what an earlier run has shown; an empty
@@ -58,8 +59,8 @@ static bool ends_stay(const Case &c)
 {
     bool front = c.where == cases::alone || c.where == cases::first;
     bool back = c.where == cases::alone || c.where == cases::last;
-    return c.number == 0 && (c.call == model::setup || (c.call == model::pop_front && front) || (c.call == model::pop_back && back) ||
-                             (c.call == model::clear && cases::in_the_list(c.where)));
+    bool end = cases::pops(c.call) && (model::at_back(c.call) ? back : front);
+    return c.number == 0 && (c.call == model::setup || end || (c.call == model::clear && cases::in_the_list(c.where)));
 }
 
 // Writes down what a call has left.
@@ -109,7 +110,7 @@ static void make(Dice &dice, const Case &c)
         std::uint16_t got = pool.call(p.ask, paint);
         if (got != c.number)
             fail("%s gave %u in a pool of %zu slots, not %u", model::names[c.call], got, c.n, c.number);
-        if (c.call != model::setup && (pool.m.place.list != after.place.list || pool.m.place.position != after.place.position))
+        if (model::has_place(c.call) && (pool.m.place.list != after.place.list || pool.m.place.position != after.place.position))
             fail("%s gave the place %u, %u in a pool of %zu slots, not %u, %u", model::names[c.call], pool.m.place.list,
                  pool.m.place.position, c.n, after.place.list, after.place.position);
         note(c);
@@ -139,7 +140,8 @@ static void cancel(Dice &dice, std::size_t n)
     model::Queues q = model::random_queues(dice, n);
     model::Queues with = q;
     model::Ask ask;
-    ask.call = dice.from(0, 1) == 0 ? model::push_back : model::push_front;
+    const model::Call any_push[] = {model::push_back, model::push_front, model::quick_push_back, model::quick_push_front};
+    ask.call = dice.one_of(any_push);
     ask.list = dice.half(0, q.list.size() - 1);
     ask.value = block();
     if (model::push(ask, with) != 0)
@@ -158,12 +160,12 @@ static void cancel(Dice &dice, std::size_t n)
 
 static void show()
 {
-    std::printf("%-14s %6s %18s %18s %12s %12s\n", "the block", "times", "in lent memory", "in the dead stack", "stack, bytes",
+    std::printf("%-17s %6s %18s %18s %12s %12s\n", "the block", "times", "in lent memory", "in the dead stack", "stack, bytes",
                 "refused");
     for (int call = 0; call < model::calls; call++) {
         const auto &s = seen[call];
-        std::printf("%-14s %6u ", model::names[call], s.times);
-        if (call == model::setup || call == model::pop_back || call == model::pop_front || call == model::clear)
+        std::printf("%-17s %6u ", model::names[call], s.times);
+        if (call == model::setup || call == model::clear || cases::pops(static_cast<model::Call>(call)))
             std::printf("%18u ", s.in_memory);
         else
             std::printf("%18s ", "-");
@@ -206,7 +208,7 @@ static void hold()
 {
     if (cancelled.times == 0 || cancelled.in_memory != 0 || cancelled.in_stack != 0)
         fail("a push and then a clear leave the block");
-    for (model::Call call : {model::setup, model::pop_back, model::pop_front, model::clear})
+    for (model::Call call : {model::setup, model::pop_back, model::pop_front, model::clear, model::quick_pop_back, model::quick_pop_front})
         if (seen[call].in_memory != 0)
             fail("after %s the block is still in lent memory", model::names[call]);
     for (const auto &s : seen)

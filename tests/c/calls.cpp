@@ -1,6 +1,6 @@
-// The ten calls of a library, by way of include/flailreeve.h, against the model: 01's pools, pools broken or miscounted by hand, every
-// tiny pool, random sequences, random sound pools, damaged ones, wrong sizes and wrong setups, presses undone. Fixed seeds; it ends with
-// the tables of numbers.
+// The fourteen calls of a library, by way of include/flailreeve.h, against the model: 01's pools, pools broken or miscounted by hand,
+// every tiny pool, random sequences, random sound pools, damaged ones, wrong sizes and wrong setups, presses undone; quick calls and
+// checked ones mixed in all of these. Fixed seeds; it ends with the tables of numbers. quick.cpp has what is of quick calls alone.
 #include <cstdlib>
 #include <ctime>
 
@@ -69,9 +69,9 @@ static void sequence(Dice &dice, std::size_t n, unsigned many)
             fail("the model's pool of %zu slots is not sound by its own definition", n);
         ask = model::random_ask(dice, q.list.size(), longest(q), m);
         if (ask.call == model::clear && !dice.one_in(8))
-            ask.call = dice.one_in(2) ? model::push_front : model::push_back;
-        if (i / (n + 1) % 2 == 0 && (ask.call == model::pop_back || ask.call == model::pop_front) && dice.one_in(2))
-            ask.call = model::push_back;
+            ask.call = dice.one_in(2) ? model::push_front : model::quick_push_back;
+        if (i / (n + 1) % 2 == 0 && model::pops(ask.call) && dice.one_in(2))
+            ask.call = dice.one_in(2) ? model::push_back : model::quick_push_front;
     }
 }
 

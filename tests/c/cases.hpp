@@ -22,9 +22,9 @@ struct Case {
     std::size_t n;
 };
 
-inline bool pushes(model::Call call) { return call == model::push_back || call == model::push_front; }
-inline bool pops(model::Call call) { return call == model::pop_back || call == model::pop_front; }
-inline bool reads(model::Call call) { return call == model::read_forward || call == model::read_backward; }
+using model::pops;
+using model::pushes;
+using model::reads;
 inline bool in_the_list(Where where) { return where <= last; }
 
 // The slots that a case cannot do without: in the list that is asked for, in another list, and free.
@@ -53,7 +53,7 @@ inline Needs needs(const Case &c)
 
 // Can there be such a case? The table says which numbers a call gives. A sound pool has 0 in its free slots and in slot 0, so
 // that the block is there only if the pool is damaged or is not looked at; in a free slot it is never with a number that comes
-// after 14, and in slot 0 never with one that comes after 10. An empty list has it nowhere.
+// after 14, and in slot 0 never with one that comes after 10. A quick call looks at no such value. An empty list has it nowhere.
 inline bool possible(const Case &c)
 {
     if (!model::table[c.call][c.number])
@@ -64,7 +64,7 @@ inline bool possible(const Case &c)
         return false;
     if (c.where == read_buffer && !reads(c.call))
         return false;
-    bool any_pool = c.call == model::setup || c.number == 1;
+    bool any_pool = c.call == model::setup || c.number == 1 || model::is_quick(c.call);
     if (c.where == free_slot && !any_pool && (c.number < model::first_rule || c.number > 14))
         return false;
     if (c.where == null_slot && !any_pool && c.number != 9 && c.number != 10)
@@ -149,6 +149,21 @@ inline void damage(Dice &dice, const Case &c, Pool &p)
     }
 }
 
+// Changes words that a quick call looks at, until it gives 17. The values stay.
+inline void damage_quick(Dice &dice, Pool &p)
+{
+    const model::Memory whole = p.m;
+    do {
+        p.m = whole;
+        flailreeve_book &book = p.m.book;
+        flailreeve_list &entry = book.list[p.list];
+        std::uint16_t *const words[] = {&entry.head,        &entry.tail,       &entry.length, &book.free_head, &book.free_count, &book.lists,
+                                        &p.m.links[entry.head], &p.m.links[entry.tail]};
+        for (std::size_t left = dice.from(1, 3); left > 0; left--)
+            *dice.one_of(words) = dice.half(0, dice.one_in(2) ? p.q.n : 65535);
+    } while (quick::Reading(p.ask, p.m).answer().number != model::quick_rest);
+}
+
 // What setup is asked: the rules of the pool as it is, and for number 2 with something that breaks them.
 inline void ask_setup(Dice &dice, const Case &c, Pool &p)
 {
@@ -221,7 +236,9 @@ inline Pool make(Dice &dice, const Case &c, std::uint64_t block)
     if (reads(c.call))
         ask_read(dice, c, p);
     put(dice, c, p, block);
-    if (c.number >= model::first_rule)
+    if (c.number == model::quick_rest)
+        damage_quick(dice, p);
+    else if (c.number >= model::first_rule)
         damage(dice, c, p);
     if (c.number == 1 && dice.one_in(2))
         p.m.links.resize(dice.one_in(2) ? c.n - 1 : c.n + 1);

@@ -12,7 +12,7 @@ namespace counts {
 // The sizes that are counted by themselves, and the others in spans: each span has the sizes from `from` to below the next.
 constexpr std::size_t from[] = {2, 3, 4, 5, 6, 7, 8, 9, 10, 65, 257, 1025, 4097};
 constexpr int spans = 12;
-inline unsigned long rule[spans][model::numbers];
+inline unsigned long rule[spans][model::last_rule + 1];
 
 // The kinds of place, where a number has more than one.
 enum Kind { list_at_head, list_further, list_zero, list_later, free_at_head, free_further, lost_one, lost_later, unwiped_one,
@@ -59,7 +59,7 @@ inline void count_kind(unsigned long (&to)[kinds], unsigned number, const flailr
 inline void count(model::Call call, std::size_t n, unsigned number, const flailreeve_place &place, unsigned lists)
 {
     reached[call][number]++;
-    if (number < model::first_rule)
+    if (number < model::first_rule || number > model::last_rule)
         return;
     rule[span_of(n)][number]++;
     count_kind(kind[span_of(n)], number, place, lists);
@@ -68,12 +68,12 @@ inline void count(model::Call call, std::size_t n, unsigned number, const flailr
 // Every number that the table allows was given, and no other.
 inline void hold_table()
 {
-    std::printf("%-14s", "times given");
+    std::printf("%-17s", "times given");
     for (int number = 0; number < model::numbers; number++)
         std::printf("%9d", number);
     std::printf("\n");
     for (int call = 0; call < model::calls; call++) {
-        std::printf("%-14s", model::names[call]);
+        std::printf("%-17s", model::names[call]);
         for (int number = 0; number < model::numbers; number++) {
             if (model::table[call][number])
                 std::printf("%9lu", reached[call][number]);
@@ -98,14 +98,14 @@ constexpr unsigned long least_small = 100, least_large = 30, least_kind = 25;
 inline void show_rules()
 {
     std::printf("%-14s", "pools of");
-    for (int number = model::first_rule; number < model::numbers; number++)
+    for (int number = model::first_rule; number <= model::last_rule; number++)
         std::printf("%9d", number);
     std::printf("\n");
     for (int span = 0; span < spans; span++) {
         char sizes[32];
         std::snprintf(sizes, sizeof sizes, from[span] + 1 == from[span + 1] ? "%zu" : "%zu to %zu", from[span], from[span + 1] - 1);
         std::printf("%-14s", sizes);
-        for (int number = model::first_rule; number < model::numbers; number++)
+        for (int number = model::first_rule; number <= model::last_rule; number++)
             std::printf("%9lu", rule[span][number]);
         std::printf("\n");
     }
@@ -127,7 +127,7 @@ inline void hold_rules()
     show_rules();
     for (int span = 0; span < spans; span++) {
         const unsigned long least = from[span] < 65 ? least_small : least_large;
-        for (int number = model::first_rule; number < model::numbers; number++)
+        for (int number = model::first_rule; number <= model::last_rule; number++)
             if (rule[span][number] < least)
                 fail("%d was given %lu times for pools of %zu slots and more, under %lu", number, rule[span][number], from[span], least);
         for (int which = 0; from[span] < 10 && which < kinds; which++)

@@ -176,8 +176,8 @@ private:
     // pool of two slots has one slot: it is free and not wiped, or in a list that is over its limit, and not both.
     void rules(std::size_t n, unsigned times)
     {
-        for (unsigned one = model::first_rule; one < model::numbers; one++)
-            for (unsigned other = one; other < model::numbers; other++)
+        for (unsigned one = model::first_rule; one <= model::last_rule; one++)
+            for (unsigned other = one; other <= model::last_rule; other++)
                 for (unsigned left = other == one ? 4 * times : times; left > 0 && !(n == 2 && one == 14 && other == 15); left--) {
                     do
                         sound_pool(n);

@@ -99,7 +99,8 @@ inline std::size_t random_at(Dice &dice, std::size_t out, std::size_t length)
 // A call on a pool whose longest list may have `length` elements; and a buffer for the reads.
 inline Ask random_ask(Dice &dice, std::size_t lists, std::size_t length, Memory &m)
 {
-    static const Call common[] = {check, model::length, push_back, push_front, pop_back, pop_front, read_forward, read_backward, clear};
+    static const Call common[] = {check, model::length, push_back, push_front, pop_back, pop_front, read_forward, read_backward, clear,
+                                  quick_push_back, quick_push_front, quick_pop_back, quick_pop_front};
     Ask ask;
     ask.call = dice.one_of(common);
     ask.list = random_list(dice, lists);

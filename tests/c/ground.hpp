@@ -64,6 +64,14 @@ public:
         compare(ask, want);
     }
 
+    // Makes the call on a copy of m and compares nothing; the number is the call's own.
+    std::uint16_t only(const model::Ask &ask, const model::Memory &m)
+    {
+        lay(ask, m);
+        made++;
+        return call(ask);
+    }
+
     // What the last call left: links, values, the book and the value handed out.
     void left(model::Memory &m)
     {
@@ -112,7 +120,7 @@ private:
 
     static bool only_reads(model::Call call)
     {
-        return call == model::check || call == model::length || call == model::read_forward || call == model::read_backward;
+        return call == model::check || call == model::length || model::reads(call);
     }
 
     void protect(bool on, bool buffer_too)
@@ -150,8 +158,28 @@ private:
             return flailreeve_read_forward(l, ln, v, vn, b, a.list, out.data(), out.size(), a.at, small.data(), p);
         case model::read_backward:
             return flailreeve_read_backward(l, ln, v, vn, b, a.list, out.data(), out.size(), a.at, small.data(), p);
-        default:
+        case model::clear:
             return flailreeve_clear(l, ln, v, vn, b, a.list, p);
+        default:
+            return quick_call(a);
+        }
+    }
+
+    std::uint16_t quick_call(const model::Ask &a)
+    {
+        std::uint16_t *l = links.data();
+        std::uint64_t *v = values.data();
+        std::size_t ln = links.size(), vn = values.size();
+        flailreeve_book *b = book.data();
+        switch (a.call) {
+        case model::quick_push_back:
+            return flailreeve_quick_push_back(l, ln, v, vn, b, a.list, a.value);
+        case model::quick_push_front:
+            return flailreeve_quick_push_front(l, ln, v, vn, b, a.list, a.value);
+        case model::quick_pop_back:
+            return flailreeve_quick_pop_back(l, ln, v, vn, b, a.list, value.data());
+        default:
+            return flailreeve_quick_pop_front(l, ln, v, vn, b, a.list, value.data());
         }
     }
 
@@ -171,8 +199,8 @@ private:
     void compare(const model::Ask &ask, const model::Memory &want)
     {
         std::uint16_t low = static_cast<std::uint16_t>(want.word);
-        flailreeve_place there = ask.call == model::setup ? laid : want.place;  // setup is lent no place
-        bool wide = ask.call == model::pop_back || ask.call == model::pop_front;
+        flailreeve_place there = model::has_place(ask.call) ? want.place : laid;  // setup and the quick calls are lent none
+        bool wide = model::pops(ask.call);
         same(ask, "link", links.data(), want.links.data(), want.links.size());
         same(ask, "value", values.data(), want.values.data(), want.values.size());
         same(ask, "word of the book", reinterpret_cast<const std::uint16_t *>(book.data()),

@@ -1,15 +1,16 @@
-// The ten calls as document 01 tells them, over sequences: the independent model that a library is compared with.
+// The calls as document 01 tells them, over sequences: the independent model that a library is compared with.
 //
 // A list is a deque of slots with their values, the free slots are a deque, and the cells of a pool are written down from
 // these deques. Whether given cells are sound is decided twice: by 01's definition with 02 c)'s clause, one by one, on sequences that
 // are held against the cells (`fits`), with no record of slots met; and by the rules of 02 b) and c) (broken.hpp), which also say where
-// it is not. The two must agree.
+// it is not. The two must agree. On a sound pool a quick call is the checked one; on any memory quick.hpp says what it does.
 #pragma once
 
 #include <deque>
 
 #include "broken.hpp"
 #include "fail.hpp"
+#include "quick.hpp"
 
 namespace model {
 
@@ -205,7 +206,7 @@ inline std::uint16_t push(const Ask &ask, Queues &q)
         return 7;
     Element e = {q.free.front(), ask.value};
     q.free.pop_front();
-    if (ask.call == push_back)
+    if (at_back(ask.call))
         list.push_back(e);
     else
         list.push_front(e);
@@ -217,8 +218,8 @@ inline std::uint16_t pop(const Ask &ask, Queues &q, std::uint64_t &word)
     std::deque<Element> &list = q.list[ask.list];
     if (list.empty())
         return 5;
-    Element e = ask.call == pop_back ? list.back() : list.front();
-    if (ask.call == pop_back)
+    Element e = at_back(ask.call) ? list.back() : list.front();
+    if (at_back(ask.call))
         list.pop_back();
     else
         list.pop_front();
@@ -241,7 +242,7 @@ inline std::uint16_t read(const Ask &ask, const Queues &q, Memory &m)
 // Has the call a length, a value or a count to hand out?
 inline bool hands_out(Call call)
 {
-    return call == length || call == pop_back || call == pop_front || call == read_forward || call == read_backward;
+    return call == length || pops(call) || reads(call);
 }
 
 // A call on a sound pool whose sequences are q, from test 4 on. Sequences and the word change; the cells are not looked at.
@@ -251,7 +252,7 @@ inline std::uint16_t on_queues(const Ask &ask, Queues &q, Memory &m)
         return 0;
     if (ask.list >= q.list.size())
         return 4;
-    switch (ask.call) {
+    switch (checked(ask.call)) {
     case length:
         m.word = q.list[ask.list].size();
         return 0;
@@ -282,13 +283,16 @@ inline Broken judge(const Memory &m, const Queues &q)
     return rule;
 }
 
-// Any call on any memory: the number, and in m what the memory holds afterwards. Every call but setup writes the place.
+// Any call on any memory: the number, and in m what the memory holds afterwards. Every call but setup and the quick ones writes the
+// place.
 inline std::uint16_t answer(const Ask &ask, Memory &m)
 {
     Queues q;
     std::uint16_t number;
     if (hands_out(ask.call))
         m.word = 0;
+    if (is_quick(ask.call))
+        return quick::answer(ask, m);
     if (ask.call == setup) {
         number = set_up(ask, m, q);
     } else {

@@ -158,11 +158,6 @@ struct Painted {
     // The same on the stack as the call before left it.
     std::uint16_t call(const model::Ask &ask)
     {
-        const void *const functions[model::calls] = {
-            pointer(flailreeve_setup),        pointer(flailreeve_check),         pointer(flailreeve_length),
-            pointer(flailreeve_push_back),    pointer(flailreeve_push_front),    pointer(flailreeve_pop_back),
-            pointer(flailreeve_pop_front),    pointer(flailreeve_read_forward),  pointer(flailreeve_read_backward),
-            pointer(flailreeve_clear)};
         std::uint64_t a[12] = {address(m.links.data()), m.links.size(), address(m.values.data()), m.values.size(),
                                address(&m.book), ask.list, 0, 0, 0, 0, 0, 0};
         m.place = {0xa5a5, 0xa5a5};
@@ -198,14 +193,27 @@ struct Painted {
             a[9] = address(&small);
             a[10] = address(&m.place);
             break;
-        default:
+        case model::clear:
             a[6] = address(&m.place);
             break;
+        default:
+            a[6] = model::pushes(ask.call) ? ask.value : address(&value);
+            break;
         }
-        return stack.call(functions[ask.call], a, registers);
+        return stack.call(function(ask.call), a, registers);
     }
 
 private:
+    static const void *function(model::Call call)
+    {
+        const void *const functions[model::calls] = {
+            pointer(flailreeve_setup),           pointer(flailreeve_check),            pointer(flailreeve_length),
+            pointer(flailreeve_push_back),       pointer(flailreeve_push_front),       pointer(flailreeve_pop_back),
+            pointer(flailreeve_pop_front),       pointer(flailreeve_read_forward),     pointer(flailreeve_read_backward),
+            pointer(flailreeve_clear),           pointer(flailreeve_quick_push_back),  pointer(flailreeve_quick_push_front),
+            pointer(flailreeve_quick_pop_back),  pointer(flailreeve_quick_pop_front)};
+        return functions[call];
+    }
     template <typename Function>
     static const void *pointer(Function *fn)
     {

@@ -58,7 +58,7 @@ public:
                     pools, sound_pools, miscounted, by_definition);
         for (std::size_t slots = 2; slots <= 4; slots++) {
             std::printf("  of %zu slots:", slots);
-            for (int number = model::first_rule; number < model::numbers; number++) {
+            for (int number = model::first_rule; number <= model::last_rule; number++) {
                 std::printf("%s %d %lu times", number == model::first_rule ? "" : ",", number, times[slots][number]);
                 if (times[slots][number] == 0)
                     fail("%d was never given for a pool of %zu slots", number, slots);
@@ -308,12 +308,12 @@ private:
         model::write_down(q, m);
         m.out.assign(n, 77);
         m.word = 99;
-        for (int c = model::check; c <= model::clear; c++) {
+        for (int c = model::check; c < model::calls; c++) {
             model::Ask ask;
             ask.call = static_cast<model::Call>(c);
             ask.value = 0xfeedfeedfeedfeedu;
             for (ask.list = 0; ask.list <= share.size(); ask.list++)
-                for (ask.at = 0; ask.at <= (c == model::read_forward || c == model::read_backward ? n + 2 : 0); ask.at++) {
+                for (ask.at = 0; ask.at <= (model::reads(ask.call) ? n + 2 : 0); ask.at++) {
                     ground.spot = static_cast<Spot>(ask.at % 3);
                     ground.run(ask, m);
                 }

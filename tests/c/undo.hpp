@@ -1,5 +1,5 @@
 // Calls that are undone: a push by a pop at the same end, a pop by a push of what it gave, one press at a time and several in a row.
-// Each call is judged by the model as always. When a press is undone, every link, value and word of the book is held against a copy
+// Quick calls and checked ones are mixed, each pair of them. Each call is judged by the model as always. When a press is undone, every link, value and word of the book is held against a copy
 // that was taken before the press, which the model has no part in.
 #pragma once
 
@@ -28,8 +28,8 @@ public:
     // Pools from a setup on: calls that stay, and between them presses that are undone. They fill and then empty.
     void from_setups(unsigned pools)
     {
-        static const model::Call filling[] = {model::push_back, model::push_front, model::push_back, model::pop_front};
-        static const model::Call emptying[] = {model::pop_back, model::pop_front, model::pop_back, model::push_front, model::clear};
+        static const model::Call filling[] = {model::push_back, model::push_front, model::quick_push_back, model::quick_pop_front};
+        static const model::Call emptying[] = {model::quick_pop_back, model::pop_front, model::pop_back, model::quick_push_front, model::clear};
         for (unsigned i = 0; i < pools; i++) {
             std::size_t n = dice.from(2, i % 2 == 0 ? 64 : 8);
             set_up(n);
@@ -57,6 +57,17 @@ public:
         met(full, "pop from a full pool was put back");
         met(last_element, "pop of a last element was put back");
         met(several, "row of several presses was undone");
+        std::printf("  pushes and then pops: ");
+        for (int how = 0; how < 4; how++)
+            std::printf("%s%s by %s %lu", how == 0 ? "" : ", ", how / 2 ? "quick" : "checked", how % 2 ? "quick" : "checked", taken_back[how]);
+        std::printf("; pops and then pushes: ");
+        for (int how = 0; how < 4; how++)
+            std::printf("%s%s by %s %lu", how == 0 ? "" : ", ", how / 2 ? "quick" : "checked", how % 2 ? "quick" : "checked", put_back[how]);
+        std::printf("\n");
+        for (int how = 0; how < 4; how++) {
+            met(taken_back[how], "push of one of the two kinds was taken back by a pop of one of the two");
+            met(put_back[how], "pop of one of the two kinds was put back by a push of one of the two");
+        }
     }
 
 private:
@@ -73,6 +84,7 @@ private:
     std::vector<Press> done;
     unsigned long rows = 0, several = 0;
     unsigned long pushes = 0, last_slot = 0, on_empty = 0;
+    unsigned long taken_back[4] = {}, put_back[4] = {};  // 2 more where the press was quick, 1 more where what undid it was
     unsigned long pops = 0, at_limit = 0, none_spare = 0, at_share = 0, over_share = 0, full = 0, last_element = 0;
 
     static void met(unsigned long times, const char *what)
@@ -81,12 +93,10 @@ private:
             fail("no %s, so nothing is known of it", what);
     }
 
-    static bool is_push(model::Call call) { return call == model::push_back || call == model::push_front; }
-
-    // The call at the same end that undoes a call.
+    // The checked call at the same end that undoes a call.
     static model::Call opposite(model::Call call)
     {
-        switch (call) {
+        switch (model::checked(call)) {
         case model::push_back:
             return model::pop_back;
         case model::push_front:
@@ -144,7 +154,8 @@ private:
     // Presses in a row, on one list or on several. Then those that were done are undone, the last one first.
     void presses(std::size_t many)
     {
-        static const model::Call ends[] = {model::push_back, model::push_front, model::pop_back, model::pop_front};
+        static const model::Call ends[] = {model::push_back, model::push_front, model::pop_back, model::pop_front, model::quick_push_back,
+                                           model::quick_push_front, model::quick_pop_back, model::quick_pop_front};
         const model::Memory start = m;
         ground.spot = static_cast<Spot>(rows++ % 3);
         for (; many > 0; many--) {
@@ -165,7 +176,7 @@ private:
         Press one = {ask, ask.value, m};
         if (make(ask) != 0)
             return;
-        if (!is_push(ask.call))
+        if (!model::pushes(ask.call))
             one.value = m.word;
         done.push_back(one);
     }
@@ -174,16 +185,18 @@ private:
     {
         model::Ask back;
         back.call = opposite(one.ask.call);
+        if (dice.one_in(2))
+            back.call = model::quick_of(back.call);
         back.list = one.ask.list;
         back.value = one.value;
         std::uint16_t number = make(back);
         if (number != 0)
             fail("%s was done, and %s to undo it was refused by %u", model::names[one.ask.call], model::names[back.call], number);
-        if (is_push(one.ask.call) && m.word != one.value)
+        if (model::pushes(one.ask.call) && m.word != one.value)
             fail("%s took %llu, and %s gave %llu back", model::names[one.ask.call], static_cast<unsigned long long>(one.value),
                  model::names[back.call], static_cast<unsigned long long>(m.word));
         as_before(one.before, model::names[one.ask.call]);
-        count(one);
+        count(one, 2 * model::is_quick(one.ask.call) + model::is_quick(back.call));
     }
 
     void as_before(const model::Memory &before, const char *what) const
@@ -208,18 +221,20 @@ private:
     }
 
     // Which of the cases that could go wrong the press was.
-    void count(const Press &one)
+    void count(const Press &one, int how)
     {
         model::Queues q = model::guess(one.before);
         std::size_t length = q.list[one.ask.list].size();
-        if (is_push(one.ask.call)) {
+        if (model::pushes(one.ask.call)) {
             pushes++;
+            taken_back[how]++;
             last_slot += q.free.size() == 1;
             on_empty += length == 0;
             return;
         }
         bool spare = q.free.size() > model::lacks(q);
         pops++;
+        put_back[how]++;
         at_limit += length == q.limit[one.ask.list];
         none_spare += !spare;
         at_share += !spare && length == q.share[one.ask.list];
