@@ -1,11 +1,13 @@
 // The records of a pool's book and of the calls' answers, with the book's constants; nothing here knows of links.
+#![tactic(auto)]
+
 ghost use Rattle.std.specs.Prelude.{◌≡◌};
 ghost use Rattle.books.specs.Book.{zero_entry, zero_book};
 ghost use Rattle.books.specs.Place.{numbered};
 
 // The idle chain: its first slot, or 0, and how many slots are free. It is passed whole, so that a new field changes no signature.
 #[repr(C)]
-#[derive(Drop)]
+#[derive(Clone, Copy)]
 pub struct Free {
     pub head: u16,
     pub count: u16,
@@ -13,7 +15,7 @@ pub struct Free {
 
 // One list: its ends, how many slots it may always have and may have at most, and how many it has.
 #[repr(C)]
-#[derive(Drop)]
+#[derive(Clone, Copy)]
 pub struct Entry {
     pub head: u16,
     pub tail: u16,
@@ -25,7 +27,7 @@ pub struct Entry {
 // The number that a call answers with, 0 for done, and for 11 to 16 where the first broken rule is broken: the list and the position that the
 // number sets, and else 0.
 #[repr(C)]
-#[derive(Drop)]
+#[derive(Clone, Copy)]
 pub struct Refusal {
     pub number: u16,
     pub list: u16,
@@ -34,7 +36,7 @@ pub struct Refusal {
 
 // How many lists there are, one entry for each, the rest all zero, and the idle chain.
 #[repr(C)]
-#[derive(Drop)]
+#[derive(Clone, Copy)]
 pub struct Book {
     pub lists: u16,
     pub entries: [Entry; 8],
@@ -46,7 +48,7 @@ pub type Words = [u16; 43];
 
 // The number of a call, and the book as it leaves it.
 #[repr(C)]
-#[derive(Drop)]
+#[derive(Clone, Copy)]
 pub struct Answer {
     pub refusal: Refusal,
     pub book: Book,
@@ -54,7 +56,7 @@ pub struct Answer {
 
 // The number of a pop, and the value that it hands out, 0 where it is refused.
 #[repr(C)]
-#[derive(Drop)]
+#[derive(Clone, Copy)]
 pub struct Value {
     pub refusal: Refusal,
     pub value: u64,
@@ -62,7 +64,7 @@ pub struct Value {
 
 // What a pop hands out, and the book as it leaves it.
 #[repr(C)]
-#[derive(Drop)]
+#[derive(Clone, Copy)]
 pub struct Popped {
     pub given: Value,
     pub book: Book,
@@ -70,7 +72,7 @@ pub struct Popped {
 
 // The number, and a list's length, 0 where the call is refused.
 #[repr(C)]
-#[derive(Drop)]
+#[derive(Clone, Copy)]
 pub struct Length {
     pub refusal: Refusal,
     pub length: u16,
@@ -78,7 +80,7 @@ pub struct Length {
 
 // The number, and how many values were written, 0 where the call is refused.
 #[repr(C)]
-#[derive(Drop)]
+#[derive(Clone, Copy)]
 pub struct Read {
     pub refusal: Refusal,
     pub count: u16,

@@ -1,4 +1,6 @@
 // The demonstration: what upstream's `main` does, on one list in a pool of six slots, shown line by line.
+#![tactic(auto)]
+
 mod calls;
 mod lines;
 

@@ -1,4 +1,6 @@
 // A number's decimal digits, the most significant first, worked out by dividing by ten.
+#![tactic(auto)]
+
 ghost use Rattle.std.specs.Prelude.{◌≡◌, ◌<◌};
 ghost use Rattle.wording.specs.Digits.{ascii_of, bytes_of, Written};
 

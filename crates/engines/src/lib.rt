@@ -1,1 +1,3 @@
 // What holds of every engine: no function.
+#![tactic(auto)]
+

@@ -1,5 +1,7 @@
 // The four end calls over a book that is lent: each copies the book out, calls the by-value call and stores the book that comes back.
 // They are exported under their own names. What C owes and no proof sees: pointers that are aligned and not null, true lengths, and links, values and a book that do not overlap.
+#![tactic(auto)]
+
 ghost use Rattle.std.specs.Prelude.{◌≡◌};
 ghost use Rattle.books.specs.Outcome.{outcome};
 ghost use Rattle.xor.specs.Ten.{push_back_of, push_front_of, pop_back_of, pop_front_of};

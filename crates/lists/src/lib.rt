@@ -1,5 +1,7 @@
 // Layer 2: upstream's list over a lent pool, as total steps under upstream's names and in its order (000: `DListXor`). The
 // stored length stays as it is: the calls count.
+#![tactic(auto)]
+
 ghost use Rattle.std.specs.Prelude.{◌≡◌};
 ghost use Rattle.books.specs.Outcome.{outcome};
 ghost use Rattle.shapes.specs.Ends.{new_of, near_of, with_near, with_both, emptied};

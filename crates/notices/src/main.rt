@@ -1,4 +1,6 @@
 // The text of every number from 0 to 17, and of two numbers that this version does not know, each on a line after its number.
+#![tactic(auto)]
+
 ghost use Rattle.std.specs.Prelude.{◌+◌, ◌≤◌, length};
 ghost use Rattle.wording.specs.Digits.{Written};
 ghost use Rattle.wording.specs.Notices.{notice_of, all_notices};

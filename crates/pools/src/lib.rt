@@ -1,4 +1,6 @@
 // Layer 3: the pool and its book as a whole. Which pools are sound, and the check that tells.
+#![tactic(auto)]
+
 ghost use Rattle.std.specs.Prelude.{◌≡◌, ◌&&◌, eqb};
 ghost use Rattle.books.specs.Test.{size_fits};
 

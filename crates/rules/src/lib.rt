@@ -1,4 +1,6 @@
 // What every crate above asks: whether a pool may have so many slots, a number as an index, and the table of calls and numbers.
+#![tactic(auto)]
+
 pub mod rows;
 
 ghost use Rattle.std.specs.Prelude.{◌≡◌, ◌<◌};
@@ -7,7 +9,7 @@ ghost use Rattle.books.specs.Test.{size_fits};
 use books::Book;
 
 // May a pool have so many slots?
-pub fn size_fits_lem(size: usize) -> bool
+pub fn size_fits(size: usize) -> bool
     ensures { result ≡ size_fits size }
 {
     if size < 2 {

@@ -1,5 +1,5 @@
 -- Laws of the lowest slot that is not wiped: it is 0 exactly where every slot is wiped, and else the lowest that is not.
-use mathlib.Core.Path.{◌≡◌, refl, sym, ap, ◌∙◌}
+use mathlib.Core.Path.{◌≡◌, refl, sym, ap, ◌∙◌, subst}
 use mathlib.Core.Logic.{◌≢◌, ◌↔◌, ◌⊎◌, inl, inr, ⊎_elim}
 use mathlib.Core.List.{List, [], ◌∷◌, ◌++◌}
 use Prim.Native.Nat.{ℕ, ◌≤◌, ◌<◌}
@@ -78,7 +78,7 @@ gathered values (x ∷ xs) least z = go (ℕ_discrete (cell values x) wipe_word)
         })
       where
         here : (low : ℕ) → low ≡ x → (0 < count low (x ∷ xs)) × (cell values low ≢ wipe_word)
-        here low k = rw k (count_first x xs, e)
+        here low k = let P : ℕ → Type 0 = λ n. (0 < count n (x ∷ xs)) × (cell values n ≢ wipe_word) in subst P (sym k) (count_first x xs, e)
 
         at : (y : ℕ) → 0 < count y (x ∷ xs) → cell values y ≢ wipe_word → Dec (y ≡ x) → Gathered values xs (lower x least) (unwiped_from values xs (lower x least))
             → Lower x least (lower x least) → 0 < unwiped_from values xs (lower x least) → unwiped_from values xs (lower x least) ≤ lower x least

@@ -1,4 +1,6 @@
 // Layer 4: the ten calls, and the four quick ones. Setup makes a sound pool, and the others work on it.
+#![tactic(auto)]
+
 pub mod check;
 pub mod clear;
 pub mod core;

@@ -1,5 +1,7 @@
 // Layer 1: a slot is taken from the idle chain, or released to it and wiped (000: `Node`, `PPtr::new`, `into_inner`). The stored count of
 // the free slots stays as it is: the calls count.
+#![tactic(auto)]
+
 ghost use Rattle.std.specs.Prelude.{◌≡◌};
 ghost use Rattle.xor.specs.Slot.{in_pool};
 ghost use Rattle.books.specs.Outcome.{outcome};

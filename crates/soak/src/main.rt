@@ -1,5 +1,7 @@
 // Long random sequences of the ten calls and the four quick ones on pools of many sizes, against an independent deque, with damage in between
 // and some calls undone.
+#![tactic(auto)]
+
 mod asks;
 mod broken;
 mod calls;

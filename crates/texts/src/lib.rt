@@ -1,4 +1,6 @@
 // One short text for each number that a call answers with, written into a buffer that the caller lends.
+#![tactic(auto)]
+
 ghost use Rattle.std.specs.Prelude.{◌<◌};
 ghost use Rattle.wording.specs.Digits.{Written};
 ghost use Rattle.wording.specs.Texts.{text_of};

@@ -1,5 +1,7 @@
 // Document 01's pools to try and a pool for each broken rule, run through the compiled calls, with every cell shown. `stdout` beside src/
 // was read line by line beside document 01, and beside document 02 for the counts and where a rule is broken.
+#![tactic(auto)]
+
 mod broken;
 mod calls;
 mod out;
