@@ -82,7 +82,7 @@ module _ {E : Engine} (L : Lawful E) where
   clear_held {links} {values} {list} {free} (s ∷ xs) {fs} H c =
       let p = pop_counted L Front links values list free s xs fs H in
       let G = leaves_counted L Front links values list free s xs fs H in
-      let I = clear_held xs G.held (omega (arith, c)) in
+      let I = clear_held {links = p.links} {values = p.values} {list = p.entry} {free = p.free} xs G.held (omega (arith, c)) in
       rw (pop_counted_lem L Front links values list free s xs fs H, G.done) (one_more_lem p (clear_on E (length xs) p.links p.values p.entry p.free) refl G I)
     where
       one_more_lem : (p r : Step E.Links) → p.free.count ≡ free.count + 1 → Leaves E Front s links values list xs fs p → Empties E p.links p.values p.entry p.free xs (s ∷ fs) r → Empties E links values list free (s ∷ xs) fs r
@@ -120,7 +120,8 @@ module _ {E : Engine} (L : Lawful E) where
   clear_emptied {links} {values} {list} {free} (s ∷ xs) {fs} H c =
       let G = leaves_counted L Front links values list free s xs fs H in
       let e = pop_counted_lem L Front links values list free s xs fs H in
-      let rest = clear_emptied xs G.held (omega (arith, c)) in
+      let p = pop_counted L Front links values list free s xs fs H in
+      let rest = clear_emptied {links = p.links} {values = p.values} {list = p.entry} {free = p.free} xs G.held (omega (arith, c)) in
       let here : (counted_pop E Front links values list free).done ≡ true = rw e G.done in
       let more = D.popped (tail_not_null H) here (subst (λ (o : Step E.Links). Emptied E o.links o.values o.entry o.free (clear_on E (length xs) o.links o.values o.entry o.free)) (sym e) rest) in
       rw here more
