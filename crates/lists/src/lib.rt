@@ -87,6 +87,7 @@ pub fn push_front(
 }
 
 // The slot at an end.
+#[tactic(auto, unfolding(shapes::specs::Ends::near_of))]
 pub fn near_of(end: End, list: Entry) -> u16
     ensures { result ≡ near_of end list }
 {
@@ -97,6 +98,7 @@ pub fn near_of(end: End, list: Entry) -> u16
 }
 
 // The list with another slot at an end.
+#[tactic(auto, unfolding(shapes::specs::Ends::with_near))]
 fn with_near(end: End, slot: u16, list: Entry) -> Entry
     ensures { result ≡ with_near end slot list }
 {
@@ -145,6 +147,7 @@ fn emptied(list: Entry) -> Entry
 }
 
 // Is `near` a slot of the pool other than `slot`?
+#[tactic(auto, unfolding(xor::specs::Steps::is_beside))]
 fn is_beside(links: &[u16], values: &[u64], near: u16, slot: u16) -> bool
     ensures { result ≡ is_beside links.now values.now near slot }
 {
@@ -199,6 +202,7 @@ fn done_pop(value: u64, list: Entry, freed: Released) -> PopStep
 }
 
 // A value at an end. Both ends test the tail alone.
+#[tactic(auto, unfolding(xor::specs::Steps::push_of))]
 fn push(
     links: &mut [u16],
     values: &mut [u64],
