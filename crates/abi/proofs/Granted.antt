@@ -1,5 +1,5 @@
 -- A push, a pop and a clear, and a quick push and pop, leave the list's share and limit, whatever the cells hold. So the C face need not store them.
-use Rattle.core.specs.Prelude.{◌≡◌, ℕ, Bool, true, false, eqb, List}
+use Rattle.std.specs.Prelude.{◌≡◌, ℕ, Bool, true, false, eqb, List}
 use mathlib.Core.Path.{refl, sym, ap, ◌∙◌}
 use Rattle.books.specs.declared.Free.{Free}
 use Rattle.books.specs.declared.Entry.{Entry}

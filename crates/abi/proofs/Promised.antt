@@ -1,5 +1,5 @@
 -- The promise that each exported function carries is the one that the laws are about, whole: `a` is what it is called with, `r` its answer, `e` what it leaves.
-use Rattle.core.specs.Prelude.{◌≡◌}
+use Rattle.std.specs.Prelude.{◌≡◌}
 use mathlib.Core.Path.{refl}
 use seplogic.Ra.Ura.{Ura}
 use base.Logic.{SProp, emp}

@@ -1,5 +1,5 @@
 -- A thin function gives what the by-value call gives: said once for the calls that change the pool, for the pops and for the reads.
-use Rattle.core.specs.Prelude.{◌≡◌, ℕ, List}
+use Rattle.std.specs.Prelude.{◌≡◌, ℕ, List}
 use mathlib.Core.Path.{refl, ap, ◌∙◌}
 use Rattle.books.specs.Outcome.{Outcome, outcome}
 use Rattle.books.specs.declared.Answer.{Answer}

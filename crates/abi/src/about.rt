@@ -1,5 +1,5 @@
 // What firmware asks of the library itself: which version it is, and the text of a number. Neither is one of the calls.
-ghost use Rattle.core.specs.Prelude.{◌≡◌};
+ghost use Rattle.std.specs.Prelude.{◌≡◌};
 ghost use Rattle.wording.specs.Digits.{Written};
 ghost use Rattle.wording.specs.Texts.{text_of};
 ghost use Rattle.faces.specs.Version.{face_version};

@@ -1,6 +1,6 @@
 // Setup, the pushes, the pops and clear for C. A refused one changes neither the pool nor the book, and stores nothing there. Each but setup
 // writes the place, 0 and 0 where its number sets none: first these, so that a call that is done keeps nothing for it.
-ghost use Rattle.core.specs.Prelude.{◌≡◌};
+ghost use Rattle.std.specs.Prelude.{◌≡◌};
 ghost use Rattle.books.specs.Words.{place_from};
 ghost use Rattle.books.specs.Outcome.{outcome};
 ghost use Rattle.faces.specs.Face.{prepared, changed, handed, setup_face, push_back_face, push_front_face, pop_back_face, pop_front_face, clear_face};
@@ -58,7 +58,7 @@ pub extern "C" fn flailreeve_push_back(
     let found = seen.found;
     let entry = entry_of(book, list);
     let free = free_of(book);
-    let gone = shares::core::push(links, values, End::Back, entry, free, found.lacks, value);
+    let gone = shares::inner::push(links, values, End::Back, entry, free, found.lacks, value);
     keep(book, list, gone)
 }
 
@@ -87,7 +87,7 @@ pub extern "C" fn flailreeve_push_front(
     let found = seen.found;
     let entry = entry_of(book, list);
     let free = free_of(book);
-    let gone = shares::core::push(links, values, End::Front, entry, free, found.lacks, value);
+    let gone = shares::inner::push(links, values, End::Front, entry, free, found.lacks, value);
     keep(book, list, gone)
 }
 
@@ -117,7 +117,7 @@ pub extern "C" fn flailreeve_pop_back(
     }
     let entry = entry_of(book, list);
     let free = free_of(book);
-    let gone = shares::core::pop(links, values, End::Back, entry, free, value);
+    let gone = shares::inner::pop(links, values, End::Back, entry, free, value);
     keep(book, list, gone)
 }
 
@@ -147,7 +147,7 @@ pub extern "C" fn flailreeve_pop_front(
     }
     let entry = entry_of(book, list);
     let free = free_of(book);
-    let gone = shares::core::pop(links, values, End::Front, entry, free, value);
+    let gone = shares::inner::pop(links, values, End::Front, entry, free, value);
     keep(book, list, gone)
 }
 
@@ -174,6 +174,6 @@ pub extern "C" fn flailreeve_clear(
     }
     let entry = entry_of(book, list);
     let free = free_of(book);
-    let gone = shares::core::clear(links, values, entry, free);
+    let gone = shares::inner::clear(links, values, entry, free);
     keep(book, list, gone)
 }

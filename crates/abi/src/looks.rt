@@ -1,5 +1,5 @@
 // Check, length and the reads for C. They change neither the pool nor the book, and write the place, 0 and 0 where their number sets none.
-ghost use Rattle.core.specs.Prelude.{◌≡◌};
+ghost use Rattle.std.specs.Prelude.{◌≡◌};
 ghost use Rattle.books.specs.Words.{place_from};
 ghost use Rattle.faces.specs.Face.{checked, told, shown, check_face, length_face, read_forward_face, read_backward_face};
 

@@ -1,6 +1,6 @@
 // The quick pushes and pops for C, 02 d): without the check, and without a place. They read and store those words of the lent book that
 // they need, and copy no other. A refused one changes neither the pool nor the book.
-ghost use Rattle.core.specs.Prelude.{◌≡◌};
+ghost use Rattle.std.specs.Prelude.{◌≡◌};
 ghost use Rattle.books.specs.Outcome.{outcome};
 ghost use Rattle.faces.specs.Quick.{quick_pushed, quick_popped, quick_push_back_face, quick_push_front_face, quick_pop_back_face, quick_pop_front_face};
 

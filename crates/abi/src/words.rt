@@ -1,5 +1,5 @@
 // The lent words of the book after a call.
-ghost use Rattle.core.specs.Prelude.{◌≡◌};
+ghost use Rattle.std.specs.Prelude.{◌≡◌};
 ghost use Rattle.books.specs.Book.{eight, book_of, entry_at};
 ghost use Rattle.books.specs.Words.{book_from};
 ghost use Rattle.shapes.specs.Changes.{with_list};

@@ -9,11 +9,12 @@ ghost use Rattle.wording.specs.Digits.{Written};
 ghost use Rattle.shows.specs.Demo.{shown_pops, shown_of, six_lines};
 
 use shows::Gone;
+use std::io;
 
-fn main() {
+fn main(rt: HostRuntime) -> io::Result<()> {
     let mut out = [0u8; 192];
     let count = run(&mut out);
-    io::write_all(libc::STDOUT_FILENO, &out[..count]);
+    rt.write_all(&out[..count])
 }
 
 // The demonstration in a pool of its own: six slots. Answers how many bytes it put into `out`.

@@ -5,10 +5,12 @@ ghost use Rattle.std.specs.Prelude.{◌+◌, ◌≤◌, length};
 ghost use Rattle.wording.specs.Digits.{Written};
 ghost use Rattle.wording.specs.Notices.{notice_of, all_notices};
 
-fn main() {
+use std::io;
+
+fn main(rt: HostRuntime) -> io::Result<()> {
     let mut out = [0u8; 1800];
     let count = all(&mut out);
-    io::write_all(libc::STDOUT_FILENO, &out[..count]);
+    rt.write_all(&out[..count])
 }
 
 // The lines of 0 to 18 and of the largest number. Answers how many bytes they have.

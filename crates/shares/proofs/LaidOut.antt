@@ -1,5 +1,5 @@
 -- Setup from what `lay_out` leaves: which book goes with which number.
-use Rattle.core.specs.Prelude.{◌≡◌, ℕ, ◌-◌, ◌%◌, ◌≤◌, ◌≢◌, List, length}
+use Rattle.std.specs.Prelude.{◌≡◌, ℕ, ◌-◌, ◌%◌, ◌≤◌, ◌≢◌, List, length}
 use mathlib.Core.Path.{refl, sym, ap, ◌∙◌}
 use native.Mathlib.Omega.{arith, div_fact, mod_fact}
 use native.Mathlib.Decide.{ℕ_discrete}

@@ -1,5 +1,5 @@
 -- What a push, a pop and a clear on one list give at each of their returns, told from what the functions that they call promise.
-use Rattle.core.specs.Prelude.{◌≡◌, ℕ, Bool, true, false, cond, ◌≢◌, List}
+use Rattle.std.specs.Prelude.{◌≡◌, ℕ, Bool, true, false, cond, ◌≢◌, List}
 use mathlib.Core.Path.{sym, ap, ◌∙◌}
 use Rattle.books.specs.declared.Free.{Free}
 use Rattle.books.specs.declared.Entry.{Entry}

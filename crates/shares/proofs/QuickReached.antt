@@ -1,5 +1,5 @@
 -- What each quick call answers at each of its returns, told from what the functions that it calls promise.
-use Rattle.core.specs.Prelude.{◌≡◌, ℕ, ◌<◌, ◌≢◌, List, length, take}
+use Rattle.std.specs.Prelude.{◌≡◌, ℕ, ◌<◌, ◌≢◌, List, length, take}
 use mathlib.Core.Path.{sym, ap, ◌∙◌}
 use native.Mathlib.Omega.{arith}
 use Rattle.books.specs.declared.Book.{Book}

@@ -1,5 +1,5 @@
 -- What each call on a list answers at each of its returns, told from what the functions that it calls promise.
-use Rattle.core.specs.Prelude.{◌≡◌, ℕ, ◌<◌, cond, ◌&&◌, eqb, leb, ◌≢◌, List, [], length, take}
+use Rattle.std.specs.Prelude.{◌≡◌, ℕ, ◌<◌, cond, ◌&&◌, eqb, leb, ◌≢◌, List, [], length, take}
 use mathlib.Core.Path.{refl, sym, ap, ◌∙◌}
 use native.Mathlib.Omega.{arith}
 use Rattle.books.specs.declared.Book.{Book}
@@ -15,7 +15,6 @@ use Rattle.books.proofs.Flat.{book_kept}
 use Rattle.books.specs.Outcome.{outcome}
 use Rattle.shapes.specs.declared.End.{End}
 use Rattle.shapes.specs.declared.ListChange.{ListChange}
-use Rattle.shapes.specs.declared.Found.{Found}
 use Rattle.shapes.specs.Shape.{stored_lacks}
 use Rattle.shapes.specs.declared.Looked.{Looked}
 use Rattle.shapes.specs.Ends.{near_of}

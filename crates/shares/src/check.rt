@@ -1,5 +1,5 @@
 // The check, as a call of its own.
-ghost use Rattle.core.specs.Prelude.{◌≡◌};
+ghost use Rattle.std.specs.Prelude.{◌≡◌};
 ghost use Rattle.books.specs.Words.{book_from};
 ghost use Rattle.xor.specs.Ten.{check_of};
 

@@ -1,5 +1,5 @@
 // Clear: a list is emptied, and every slot that it held is wiped and free.
-ghost use Rattle.core.specs.Prelude.{◌≡◌};
+ghost use Rattle.std.specs.Prelude.{◌≡◌};
 ghost use Rattle.books.specs.Outcome.{outcome};
 ghost use Rattle.xor.specs.Ten.{clear_of};
 
@@ -24,7 +24,7 @@ pub fn clear(links: &mut [u16], values: &mut [u64], book: Book, list: u16) -> An
     let k = rules::wide(list);
     let entry = book.entries[k];
     let free = book.free;
-    let gone = crate::core::clear(links, values, entry, free);
+    let gone = crate::inner::clear(links, values, entry, free);
     Answer {
         refusal: Refusal {
             number: gone.number,

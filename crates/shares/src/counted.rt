@@ -1,6 +1,6 @@
 // The steps on one list with the stored counts: one slot more or less in the list, one less or more free. A step that the list refuses
 // changes nothing. The counts are words of 16 bits; no count of a sound pool leaves its word.
-ghost use Rattle.core.specs.Prelude.{◌≡◌};
+ghost use Rattle.std.specs.Prelude.{◌≡◌};
 ghost use Rattle.books.specs.Outcome.{outcome};
 ghost use Rattle.shapes.specs.Counts.{with_length, with_count, word_up, word_down, word_sum};
 ghost use Rattle.engines.specs.Counted.{if_made};

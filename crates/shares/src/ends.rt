@@ -1,5 +1,5 @@
 // The four calls at an end of a list: push back, push front, pop back, pop front.
-ghost use Rattle.core.specs.Prelude.{◌≡◌};
+ghost use Rattle.std.specs.Prelude.{◌≡◌};
 ghost use Rattle.books.specs.Book.{eight};
 ghost use Rattle.books.specs.Outcome.{outcome};
 ghost use Rattle.engines.specs.Calls.{push_call, pop_call};
@@ -70,7 +70,7 @@ fn push(
     let k = rules::wide(list);
     let entry = book.entries[k];
     let free = book.free;
-    let gone = crate::core::push(links, values, end, entry, free, found.lacks, value);
+    let gone = crate::inner::push(links, values, end, entry, free, found.lacks, value);
     Answer {
         refusal: Refusal {
             number: gone.number,
@@ -96,7 +96,7 @@ fn pop(links: &mut [u16], values: &mut [u64], end: End, book: Book, list: u16) -
     let entry = book.entries[k];
     let free = book.free;
     let mut value: u64 = 0;
-    let gone = crate::core::pop(links, values, end, entry, free, &mut value);
+    let gone = crate::inner::pop(links, values, end, entry, free, &mut value);
     popped(
         Refusal {
             number: gone.number,

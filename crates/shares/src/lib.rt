@@ -3,9 +3,9 @@
 
 pub mod check;
 pub mod clear;
-pub mod core;
 mod counted;
 pub mod ends;
+pub mod inner;
 pub mod quick;
 pub mod reads;
 pub mod refusals;

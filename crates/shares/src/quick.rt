@@ -1,6 +1,6 @@
 // 02 d)'s quick calls: a push and a pop at an end without the check of the pool. The stored counts are taken as they are. On a sound pool
 // they do what the checked calls do. On any other memory they are refused before the first store, or make the step inside the pool.
-ghost use Rattle.core.specs.Prelude.{◌≡◌};
+ghost use Rattle.std.specs.Prelude.{◌≡◌};
 ghost use Rattle.books.specs.Book.{eight};
 ghost use Rattle.books.specs.Outcome.{outcome};
 ghost use Rattle.shapes.specs.Counts.{with_length, with_count};

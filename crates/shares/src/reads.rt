@@ -1,5 +1,5 @@
 // Length, read forward and read backward, which change neither the pool nor the book.
-ghost use Rattle.core.specs.Prelude.{◌≡◌};
+ghost use Rattle.std.specs.Prelude.{◌≡◌};
 ghost use Rattle.books.specs.Book.{eight};
 ghost use Rattle.books.specs.Words.{book_from};
 ghost use Rattle.shapes.specs.Tests.{read_left, read_of};

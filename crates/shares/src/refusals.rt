@@ -1,5 +1,5 @@
 // Which number a call on a list is refused by, in order: 1, 9 to 16 and 4 first, then what the call itself asks for.
-ghost use Rattle.core.specs.Prelude.{◌≡◌, ◌&&◌, if◌then◌else◌, nat_eq, nat_le};
+ghost use Rattle.std.specs.Prelude.{◌≡◌, ◌&&◌, if◌then◌else◌, nat_eq, nat_le};
 ghost use Rattle.books.specs.Place.{numbered};
 ghost use Rattle.shapes.specs.Numbers.{first_that};
 ghost use Rattle.shapes.specs.Tests.{push_own_tests, pop_own_tests, read_own_tests};

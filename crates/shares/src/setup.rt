@@ -1,5 +1,5 @@
 // Setup: every slot from 1 on is idle, in order, and the lists are empty.
-ghost use Rattle.core.specs.Prelude.{◌≡◌, ◌-◌, ◌%◌, ◌≤◌, length, take, drop};
+ghost use Rattle.std.specs.Prelude.{◌≡◌, ◌-◌, ◌%◌, ◌≤◌, length, take, drop};
 ghost use Rattle.books.specs.Place.{numbered};
 ghost use Rattle.books.specs.Tabulate.{tabulate};
 ghost use Rattle.books.specs.Outcome.{outcome};

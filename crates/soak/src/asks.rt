@@ -42,13 +42,11 @@ fn length(seed: u64, k: u64, state: u64, size: u64) -> u64 {
 // Shares and limits that keep the rules.
 fn ask_entries(desk: &mut Desk, seed: u64, lists: u64, most: u64) {
     let mut left = most;
-    let mut list: u64 = 0;
-    while list < lists {
+    for list in 0..lists {
         let share = dice(seed, list ^ 16, plus(left / 2, 1));
         let more = dice(seed, list ^ 24, plus(minus(most, share), 1));
         set_four(desk, ASKED, list << 3, 0, 0, share, plus(share, more));
         left = minus(left, share);
-        list += 1;
     }
 }
 

@@ -11,29 +11,25 @@ const NOWHERE: u64 = 65536;
 fn write_chain(desk: &mut Desk, chain: u64, size: u64) -> u64 {
     let mut last: u64 = 0;
     let mut slot = get(desk, BOOK, chain << 3);
-    let mut many: u64 = 0;
-    while many < size {
+    for many in 0..size {
         if slot == 0 {
             return many;
         }
         set(desk, plus(WRITTEN, chain), many, slot);
-        many += 1;
         if size <= slot {
-            return many;
+            return many + 1;
         }
         let after = get(desk, LINKS, slot) ^ last;
         last = sound::before(chain, slot);
         slot = after;
     }
-    many
+    size
 }
 
 fn write_chains(desk: &mut Desk, size: u64) {
-    let mut chain: u64 = 0;
-    while chain < 9 {
+    for chain in 0..9 {
         let many = write_chain(desk, chain, size);
         set(desk, LENGTHS, chain, many);
-        chain += 1;
     }
 }
 
@@ -44,21 +40,17 @@ fn mark(chain: u64, place: u64) -> u64 {
 
 // Each slot of a chain is marked with its place, the last one first.
 fn mark_chain(desk: &mut Desk, chain: u64) {
-    let mut left = get(desk, LENGTHS, chain);
-    while 0 < left {
-        left -= 1;
-        let slot = get(desk, plus(WRITTEN, chain), left);
-        set(desk, MARKS, slot, mark(chain, left));
+    for place in (0..get(desk, LENGTHS, chain)).rev() {
+        let slot = get(desk, plus(WRITTEN, chain), place);
+        set(desk, MARKS, slot, mark(chain, place));
     }
 }
 
 // The free chain first and list 0 last, so that of several places the first one stays.
 fn mark_chains(desk: &mut Desk, size: u64) {
-    let mut left: u64 = 9;
     fill(desk, MARKS, 0, size);
-    while 0 < left {
-        left -= 1;
-        mark_chain(desk, left);
+    for chain in (0..9).rev() {
+        mark_chain(desk, chain);
     }
 }
 
@@ -88,13 +80,10 @@ fn wrong_end(desk: &Desk, chain: u64) -> u64 {
 
 // The first wrong place of a chain, or its wrong end.
 fn wrong_place(desk: &Desk, chain: u64, size: u64) -> u64 {
-    let many = get(desk, LENGTHS, chain);
-    let mut place: u64 = 0;
-    while place < many {
+    for place in 0..get(desk, LENGTHS, chain) {
         if is_wrong(desk, chain, place, size) {
             return place;
         }
-        place += 1;
     }
     wrong_end(desk, chain)
 }
@@ -108,8 +97,7 @@ fn named(desk: &mut Desk, number: u64, list: u64, position: u64) -> u64 {
 
 // 11 or 12, or 0. The entries past the lists are all 0 here, and so their chains are empty.
 fn chain_rule(desk: &mut Desk, size: u64) -> u64 {
-    let mut chain: u64 = 0;
-    while chain < 9 {
+    for chain in 0..9 {
         let place = wrong_place(desk, chain, size);
         if place != NOWHERE {
             return match chain {
@@ -117,7 +105,6 @@ fn chain_rule(desk: &mut Desk, size: u64) -> u64 {
                 _ => named(desk, 11, chain, place),
             };
         }
-        chain += 1;
     }
     0
 }
@@ -141,24 +128,20 @@ fn rule_of(desk: &Desk, slot: u64) -> u64 {
 
 // 13 or 14 with the lowest slot that breaks it, or 0.
 fn slot_rule(desk: &mut Desk, number: u64, size: u64) -> u64 {
-    let mut slot: u64 = 1;
-    while slot < size {
+    for slot in 1..size {
         if rule_of(desk, slot) == number {
             return named(desk, number, 0, slot);
         }
-        slot += 1;
     }
     0
 }
 
 // 15 or 0. A list past L has length 0 and limit 0.
 fn limit_rule(desk: &mut Desk) -> u64 {
-    let mut list: u64 = 0;
-    while list < 8 {
+    for list in 0..8 {
         if get(desk, BOOK, (list << 3) | LIMIT) < get(desk, LENGTHS, list) {
             return named(desk, 15, list, 0);
         }
-        list += 1;
     }
     if get(desk, LENGTHS, FREE) < sound::lacks(desk, BOOK, LENGTHS) {
         return named(desk, 15, get(desk, BOOK, LISTS), 0);
@@ -168,15 +151,13 @@ fn limit_rule(desk: &mut Desk) -> u64 {
 
 // 16 or 0: a stored count is not how many slots its chain has. An entry past L has length 0, and so has its chain.
 fn count_rule(desk: &mut Desk) -> u64 {
-    let mut chain: u64 = 0;
-    while chain < 9 {
+    for chain in 0..9 {
         if get(desk, BOOK, (chain << 3) | LENGTH) != get(desk, LENGTHS, chain) {
             return match chain {
                 FREE => named(desk, 16, get(desk, BOOK, LISTS), 0),
                 _ => named(desk, 16, chain, 0),
             };
         }
-        chain += 1;
     }
     0
 }

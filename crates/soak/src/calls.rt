@@ -31,10 +31,8 @@ fn lent(desk: &Desk, what: u64) -> usize
 fn laid_links(desk: &Desk) -> [u16; 4200] {
     let span = lent(desk, SPAN);
     let mut links = [0u16; 4200];
-    let mut k: usize = 0;
-    while k < span {
+    for k in 0..span {
         links[k] = word(desk, LINKS, long(k));
-        k += 1;
     }
     links
 }
@@ -42,29 +40,23 @@ fn laid_links(desk: &Desk) -> [u16; 4200] {
 fn laid(desk: &Desk, row: u64) -> [u64; 4200] {
     let span = lent(desk, SPAN);
     let mut cells = [0u64; 4200];
-    let mut k: usize = 0;
-    while k < span {
+    for k in 0..span {
         cells[k] = get(desk, row, long(k));
-        k += 1;
     }
     cells
 }
 
 fn note_links(desk: &mut Desk, links: &[u16; 4200]) {
     let span = lent(desk, SPAN);
-    let mut k: usize = 0;
-    while k < span {
+    for k in 0..span {
         set(desk, GOT_LINKS, long(k), wide(links[k]));
-        k += 1;
     }
 }
 
 fn note_cells(desk: &mut Desk, row: u64, cells: &[u64; 4200]) {
     let span = lent(desk, SPAN);
-    let mut k: usize = 0;
-    while k < span {
+    for k in 0..span {
         set(desk, row, long(k), cells[k]);
-        k += 1;
     }
 }
 
@@ -123,8 +115,7 @@ fn note_answer(desk: &mut Desk, answer: Popped) {
     let book = answer.book;
     let entries = book.entries;
     let free = book.free;
-    let mut k: usize = 0;
-    while k < 8 {
+    for k in 0..8 {
         let one = entries[k];
         set_four(
             desk,
@@ -136,7 +127,6 @@ fn note_answer(desk: &mut Desk, answer: Popped) {
             wide(one.limit),
         );
         set(desk, GOT, (long(k) << 3) | LENGTH, wide(one.length));
-        k += 1;
     }
     set(desk, GOT, FREE_HEAD, wide(free.head));
     set(desk, GOT, LISTS, wide(book.lists));

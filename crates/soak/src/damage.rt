@@ -107,13 +107,12 @@ fn change(desk: &mut Desk, seed: u64, size: u64) {
 
 // One to three changes, so that several rules may be broken, and the program's own test says whether the pool is sound all the same.
 fn hurt(desk: &mut Desk, seed: u64, size: u64) {
-    let mut left = plus(dice(seed, 28, 3), 1);
+    let changes = plus(dice(seed, 28, 3), 1);
     let mut die = seed;
     sound::copy_pool(desk, LINKS, SAVED, size);
-    while 0 < left {
+    for _ in 0..changes {
         change(desk, die, size);
         die = stir(die);
-        left -= 1;
     }
     let state = sound::faults(desk, size);
     set(desk, NOTES, STATE, state);

@@ -52,20 +52,16 @@ fn pop(desk: &mut Desk, list: u64, end: u64) -> u64 {
 
 // Clear: popping the front until the list is empty.
 fn clear(desk: &mut Desk, list: u64, many: u64) -> u64 {
-    let mut gone: u64 = 0;
-    while gone < many {
+    for _ in 0..many {
         pop(desk, list, FRONT);
-        gone += 1;
     }
     0
 }
 
 // Setup: the lists are empty, every slot from 1 on is free, in order, and every value is 0.
 fn set_up(desk: &mut Desk, size: u64) -> u64 {
-    let mut slot: u64 = 0;
-    while slot < size {
+    for slot in 0..size {
         set(desk, FREE, minus(slot, 1), slot);
-        slot += 1;
     }
     set(desk, NOTES, SIZE, size);
     set(desk, NOTES, STATE, 0);
@@ -86,11 +82,9 @@ fn value_at(desk: &Desk, list: u64, end: u64, place: u64) -> u64 {
 // What a read must leave in the buffer.
 fn read(desk: &mut Desk, list: u64, end: u64, many: u64) -> u64 {
     let at = get(desk, NOTES, AT);
-    let mut k: u64 = 0;
-    while k < many {
+    for k in 0..many {
         let value = value_at(desk, list, end, k);
         set(desk, BUFFER, plus(at, k), value);
-        k += 1;
     }
     many
 }
@@ -128,12 +122,10 @@ fn draw_list(desk: &mut Desk, list: u64) {
     let many = get(desk, COUNTS, list);
     let head = slot_at(desk, list, 0);
     let tail = slot_at(desk, list, minus(many, 1));
-    let mut k: u64 = 0;
-    while k < many {
+    for k in 0..many {
         let slot = slot_at(desk, list, k);
         let link = link_at(desk, list, k);
         set(desk, LINKS, slot, link);
-        k += 1;
     }
     set(desk, BOOK, list << 3, head);
     set(desk, BOOK, (list << 3) | 1, tail);
@@ -142,10 +134,8 @@ fn draw_list(desk: &mut Desk, list: u64) {
 
 // The links and the book as the deque says that they must be, and the null slot.
 pub(crate) fn draw(desk: &mut Desk) {
-    let mut list: u64 = 0;
-    while list < 9 {
+    for list in 0..9 {
         draw_list(desk, list);
-        list += 1;
     }
     set(desk, LINKS, 0, 0);
     set(desk, BOOK, FREE_HEAD + 1, 0);

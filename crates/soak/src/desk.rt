@@ -166,30 +166,24 @@ fn index(row: u64, place: u64) -> usize {
 }
 
 pub(crate) fn copy(desk: &mut Desk, from: u64, to: u64, many: u64) {
-    let mut k: u64 = 0;
-    while k < many {
+    for k in 0..many {
         let cell = get(desk, from, k);
         set(desk, to, k, cell);
-        k += 1;
     }
 }
 
 pub(crate) fn fill(desk: &mut Desk, row: u64, with: u64, many: u64) {
-    let mut k: u64 = 0;
-    while k < many {
+    for k in 0..many {
         set(desk, row, k, with);
-        k += 1;
     }
 }
 
 // The first of `many` places at which two rows differ, or `many`.
 pub(crate) fn first_difference(desk: &Desk, one: u64, other: u64, many: u64) -> u64 {
-    let mut k: u64 = 0;
-    while k < many {
+    for k in 0..many {
         if get(desk, one, k) != get(desk, other, k) {
             return k;
         }
-        k += 1;
     }
     many
 }

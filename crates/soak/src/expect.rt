@@ -1,6 +1,7 @@
 // What a call must give and leave, in the documents' words, and whether it did.
 use crate::desk::*;
 use crate::{broken, deque, out, quick, sound};
+use std::io;
 
 // 6 or 7, for a list that holds so many, where so many slots are free and the lists lack so many. Above its limit neither is given.
 pub(crate) fn push_number(desk: &Desk, list: u64, many: u64, free: u64, lacks: u64) -> u64 {
@@ -113,13 +114,14 @@ fn number(desk: &mut Desk, kind: u64) -> u64 {
 }
 
 // The two rows are compared.
-pub(crate) fn compare(desk: &mut Desk, got: u64, wanted: u64) {
+pub(crate) fn compare(rt: &impl Print, desk: &mut Desk, got: u64, wanted: u64) -> io::Result<()> {
     let span = get(desk, NOTES, SPAN);
     let place = first_difference(desk, got, wanted, span);
     if place < span {
-        out::difference(desk, got, wanted, place);
+        out::difference(rt, desk, got, wanted, place)?;
         add_to(desk, NOTES, DIFFERENCES, 1);
     }
+    Ok(())
 }
 
 // The number that the call must give, and where that is 0 the call done on the deque, or on the cells where the deque does not tell of them.
@@ -148,15 +150,15 @@ fn expect(desk: &mut Desk, kind: u64) {
 }
 
 // What the call left and answered is held to what it must.
-pub(crate) fn judge(desk: &mut Desk) {
+pub(crate) fn judge(rt: &impl Print, desk: &mut Desk) -> io::Result<()> {
     let kind = get(desk, NOTES, KIND);
     let row = plus(kind, get(desk, NOTES, QUICK));
     let given = get(desk, GOT, NUMBER);
     expect(desk, kind);
     add_to(desk, TABLE, (row << 5) | given, 1);
     add_to(desk, TABLE, (ALL << 5) | given, 1);
-    compare(desk, GOT, WANTED);
-    compare(desk, GOT_LINKS, LINKS);
-    compare(desk, GOT_VALUES, VALUES);
-    compare(desk, GOT_BUFFER, BUFFER);
+    compare(rt, desk, GOT, WANTED)?;
+    compare(rt, desk, GOT_LINKS, LINKS)?;
+    compare(rt, desk, GOT_VALUES, VALUES)?;
+    compare(rt, desk, GOT_BUFFER, BUFFER)
 }

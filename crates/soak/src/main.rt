@@ -15,6 +15,7 @@ mod sound;
 mod undo;
 
 use crate::desk::*;
+use std::io;
 
 // The sizes of the pools, and how many calls are made on each. On a small one several rules are broken at once more often.
 const SIZES: [u64; 12] = [2, 3, 4, 5, 6, 8, 16, 61, 256, 1000, 4095, 4096];
@@ -25,7 +26,7 @@ const CALLS_ON: [u64; 12] = [
 
 // One call: the one that undoes the call before, where that is to be undone, or else one by dice, and now and then damage before it.
 // After a difference nothing more is done.
-fn turn(desk: &mut Desk) {
+fn turn(rt: &impl Print, desk: &mut Desk) -> io::Result<()> {
     let seed = next(get(desk, NOTES, SEED));
     let size = get(desk, NOTES, SIZE);
     let undoing = get(desk, NOTES, UNDOING);
@@ -40,37 +41,35 @@ fn turn(desk: &mut Desk) {
         _ => undo::ask(desk, seed, undoing),
     }
     calls::make(desk);
-    expect::judge(desk);
-    undo::after(desk, seed, undoing);
+    expect::judge(rt, desk)?;
+    undo::after(rt, desk, seed, undoing)
 }
 
 // A pool of a size, from its first setup on.
-fn pool(desk: &mut Desk, size: u64, calls: u64) {
-    let mut step: u64 = 0;
+fn pool(rt: &impl Print, desk: &mut Desk, size: u64, calls: u64) -> io::Result<()> {
     set(desk, NOTES, SIZE, size);
     set(desk, NOTES, STATE, 2);
     set(desk, NOTES, UNDOING, 0);
-    while step < calls {
+    for step in 0..calls {
         set(desk, NOTES, STEP, step);
         if get(desk, NOTES, DIFFERENCES) != 0 {
-            return;
+            return Ok(());
         }
-        turn(desk);
-        step += 1;
+        turn(rt, desk)?;
     }
+    Ok(())
 }
 
-fn pools(desk: &mut Desk) {
-    let mut k: usize = 0;
-    while k < 12 {
-        pool(desk, SIZES[k], CALLS_ON[k]);
-        k += 1;
+fn pools(rt: &impl Print, desk: &mut Desk) -> io::Result<()> {
+    for k in 0..12 {
+        pool(rt, desk, SIZES[k], CALLS_ON[k])?;
     }
+    Ok(())
 }
 
-fn main() {
+fn main(rt: HostRuntime) -> io::Result<()> {
     let mut desk = [0u64; 360448];
     set(&mut desk, NOTES, SEED, 88172645463325252);
-    pools(&mut desk);
-    out::summary(&desk);
+    pools(&rt, &mut desk)?;
+    out::summary(&rt, &desk)
 }

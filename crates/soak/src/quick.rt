@@ -9,27 +9,24 @@ const ABOVE: u64 = 18446744073709551615;
 // What the lists that there are lack of their shares by their stored lengths; ABOVE where one of these, or the free count, is above N-1.
 fn stored_lacks(desk: &Desk, lists: u64, size: u64) -> u64 {
     let mut sum: u64 = 0;
-    let mut list: u64 = 0;
     if size <= get(desk, BOOK, FREE_COUNT) {
         return ABOVE;
     }
-    while list < lists {
+    for list in 0..lists {
         let many = get(desk, BOOK, (list << 3) | LENGTH);
         if size <= many {
             return ABOVE;
         }
         let share = get(desk, BOOK, (list << 3) | SHARE);
         sum = plus(sum, sound::lack(share, many));
-        list += 1;
     }
     sum
 }
 
 // 17 where one of so many listed slots is not from 1 to N-1, or there twice, or 0.
 fn slots_number(desk: &mut Desk, many: u64, size: u64) -> u64 {
-    let mut k: u64 = 0;
     fill(desk, MARKS, 0, size);
-    while k < many {
+    for k in 0..many {
         let slot = get(desk, NOTES, plus(TOUCHED, k));
         if minus(size, 1) <= minus(slot, 1) {
             return 17;
@@ -38,7 +35,6 @@ fn slots_number(desk: &mut Desk, many: u64, size: u64) -> u64 {
             return 17;
         }
         set(desk, MARKS, slot, 1);
-        k += 1;
     }
     0
 }

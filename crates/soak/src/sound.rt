@@ -33,8 +33,7 @@ pub(crate) fn before(list: u64, slot: u64) -> u64 {
 fn guess_list(desk: &mut Desk, list: u64, size: u64) -> u64 {
     let mut last: u64 = 0;
     let mut slot = get(desk, BOOK, list << 3);
-    let mut many: u64 = 0;
-    while many < size {
+    for many in 0..size {
         if ends(desk, list, slot, size) {
             return many;
         }
@@ -42,21 +41,18 @@ fn guess_list(desk: &mut Desk, list: u64, size: u64) -> u64 {
         let after = get(desk, LINKS, slot) ^ last;
         last = before(list, slot);
         slot = after;
-        many += 1;
     }
-    many
+    size
 }
 
 // Answers how many slots there are in all the sequences together.
 fn guess(desk: &mut Desk, size: u64) -> u64 {
     let mut sum: u64 = 0;
-    let mut list: u64 = 0;
     fill(desk, FIRSTS, 0, 9);
-    while list < 9 {
+    for list in 0..9 {
         let many = guess_list(desk, list, size);
         set(desk, COUNTS, list, many);
         sum = plus(sum, many);
-        list += 1;
     }
     sum
 }
@@ -90,23 +86,19 @@ pub(crate) fn lack(share: u64, many: u64) -> u64 {
 // The sum of what each list lacks of its share.
 pub(crate) fn lacks(desk: &Desk, book: u64, counts: u64) -> u64 {
     let mut sum: u64 = 0;
-    let mut list: u64 = 0;
-    while list < 8 {
+    for list in 0..8 {
         let share = get(desk, book, (list << 3) | SHARE);
         sum = plus(sum, lack(share, get(desk, counts, list)));
-        list += 1;
     }
     sum
 }
 
 // The book rules, for lists that hold so many slots. With empty lists the lacks are the shares.
 pub(crate) fn rules_kept(desk: &Desk, book: u64, counts: u64, size: u64) -> bool {
-    let mut list: u64 = 0;
-    while list < 8 {
+    for list in 0..8 {
         if !entry_fits(desk, book, counts, list, size) {
             return false;
         }
-        list += 1;
     }
     if 7 < minus(get(desk, book, LISTS), 1) {
         return false;

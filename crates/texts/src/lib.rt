@@ -7,6 +7,7 @@ ghost use Rattle.wording.specs.Texts.{text_of};
 
 // The number's text into `out` from place `at` on. Answers how many bytes, which is at least 1.
 // Where they do not all fit it answers 0, and nothing is written.
+#[tactic(auto, unfolding(wording::specs::Texts::text_of))]
 pub fn write(out: &mut [u8], at: usize, number: u16) -> usize
     ensures { Written (text_of number) out.old at result out.new }
 {
@@ -33,6 +34,7 @@ pub fn write(out: &mut [u8], at: usize, number: u16) -> usize
 }
 
 // As `write`, of the numbers from 9 on: what is wrong with the pool or its book, and the text of a number that this version does not know.
+#[tactic(auto, unfolding(wording::specs::Texts::text_of))]
 fn write_fault(out: &mut [u8], at: usize, number: u16) -> usize
     requires { 8 < number }
     ensures { Written (text_of number) out.old at result out.new }

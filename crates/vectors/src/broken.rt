@@ -1,6 +1,7 @@
 // A sound pool, and for each of the numbers 9 to 16 the same pool with that rule broken first.
 use crate::{out, steps};
 use books::{Book, Entry, Free};
+use std::io;
 
 // The titles: the number, and what is changed.
 const SOUND: [u8; 16] = *b"sound, two lists";
@@ -85,66 +86,72 @@ fn book(share: u16, tail: u16, limit: u16, free: u16, counts: [u16; 4]) -> Book 
 }
 
 // A pool and its account.
-fn pool(title: [u8; 16], links: [u16; 8], values: [u64; 8], book: Book) {
+fn pool(
+    rt: &impl Print,
+    title: [u8; 16],
+    links: [u16; 8],
+    values: [u64; 8],
+    book: Book,
+) -> io::Result<()> {
     let mut own_links = links;
     let mut own_values = values;
-    out::title(title);
-    steps::run(&mut own_links, &mut own_values, book, 0, 0);
+    out::title(rt, title)?;
+    steps::run(rt, &mut own_links, &mut own_values, book, 0, 0)
 }
 
 // A pool with the cells of the sound one.
-fn booked(title: [u8; 16], book: Book) {
-    pool(title, LINKS, VALUES, book);
+fn booked(rt: &impl Print, title: [u8; 16], book: Book) -> io::Result<()> {
+    pool(rt, title, LINKS, VALUES, book)
 }
 
-fn nine_to_eleven() {
+fn nine_to_eleven(rt: &impl Print) -> io::Result<()> {
     let sound = book(2, 6, 3, 7, COUNTS);
-    booked(SOUND, sound);
-    booked(SHARE_OVER_LIMIT, book(6, 6, 3, 7, COUNTS));
-    booked(UNUSED_LENGTH, book(2, 6, 3, 7, [2, 3, 1, 2]));
-    pool(SLOT_0, LINKS, [9, 10, 20, 40, 0, 30, 50, 0], sound);
+    booked(rt, SOUND, sound)?;
+    booked(rt, SHARE_OVER_LIMIT, book(6, 6, 3, 7, COUNTS))?;
+    booked(rt, UNUSED_LENGTH, book(2, 6, 3, 7, [2, 3, 1, 2]))?;
+    pool(rt, SLOT_0, LINKS, [9, 10, 20, 40, 0, 30, 50, 0], sound)?;
     // Behind slots 5 and 3 of list 1 stands slot 8.
-    pool(NO_SUCH_SLOT, [0, 2, 1, 13, 0, 3, 3, 4], VALUES, sound);
-    booked(NOT_THE_TAIL, book(2, 3, 3, 7, COUNTS));
+    pool(rt, NO_SUCH_SLOT, [0, 2, 1, 13, 0, 3, 3, 4], VALUES, sound)?;
+    booked(rt, NOT_THE_TAIL, book(2, 3, 3, 7, COUNTS))
 }
 
-fn twelve_to_fifteen() {
+fn twelve_to_fifteen(rt: &impl Print) -> io::Result<()> {
     let sound = book(2, 6, 3, 7, COUNTS);
     // Behind the free slots stands slot 2 of list 0.
-    pool(MET_BEFORE, [0, 2, 1, 3, 2, 3, 3, 4], VALUES, sound);
+    pool(rt, MET_BEFORE, [0, 2, 1, 3, 2, 3, 3, 4], VALUES, sound)?;
     // Slots 7 and 4 are in no chain, and the lower one is named.
-    booked(IN_NO_CHAIN, book(2, 6, 3, 0, COUNTS));
+    booked(rt, IN_NO_CHAIN, book(2, 6, 3, 0, COUNTS))?;
     // Slot 7 stands first in the chain, and the lower one is named.
-    pool(NOT_WIPED, LINKS, [0, 10, 20, 40, 9, 30, 50, 9], sound);
-    booked(PAST_A_LIMIT, book(2, 6, 2, 7, COUNTS));
+    pool(rt, NOT_WIPED, LINKS, [0, 10, 20, 40, 9, 30, 50, 9], sound)?;
+    booked(rt, PAST_A_LIMIT, book(2, 6, 2, 7, COUNTS))?;
     // List 0 lacks three slots of its share, and two are free.
-    booked(TOO_FEW_FREE, book(5, 6, 3, 7, COUNTS));
+    booked(rt, TOO_FEW_FREE, book(5, 6, 3, 7, COUNTS))
 }
 
 // 15 goes by the slots that there are, and comes before 16. What the counts say in its place gives 16.
-fn fifteen_or_sixteen() {
+fn fifteen_or_sixteen(rt: &impl Print) -> io::Result<()> {
     // List 1 has three slots, one past its limit, and its length says two.
-    booked(LENGTH_FITS, book(2, 6, 2, 7, [2, 2, 0, 2]));
+    booked(rt, LENGTH_FITS, book(2, 6, 2, 7, [2, 2, 0, 2]))?;
     // List 0 lacks three slots of its share, and two are free; its length says that it lacks none, and the count that nine are free.
-    booked(COUNTS_COVER, book(5, 6, 3, 7, [5, 3, 0, 9]));
+    booked(rt, COUNTS_COVER, book(5, 6, 3, 7, [5, 3, 0, 9]))?;
     // List 1 is at its limit, and its length says one more.
-    booked(LENGTH_IS_PAST, book(2, 6, 3, 7, [2, 4, 0, 2]));
+    booked(rt, LENGTH_IS_PAST, book(2, 6, 3, 7, [2, 4, 0, 2]))?;
     // List 0 lacks one slot, and the count says that none is free.
-    booked(COUNT_IS_TOO_FEW, book(3, 6, 3, 7, [2, 3, 0, 0]));
+    booked(rt, COUNT_IS_TOO_FEW, book(3, 6, 3, 7, [2, 3, 0, 0]))
 }
 
-fn sixteen() {
-    booked(LENGTH_OF_0, book(2, 6, 3, 7, [3, 3, 0, 2]));
+fn sixteen(rt: &impl Print) -> io::Result<()> {
+    booked(rt, LENGTH_OF_0, book(2, 6, 3, 7, [3, 3, 0, 2]))?;
     // One bit of the upper half is wrong.
-    booked(LENGTH_OF_1, book(2, 6, 3, 7, [2, 259, 0, 2]));
+    booked(rt, LENGTH_OF_1, book(2, 6, 3, 7, [2, 259, 0, 2]))?;
     // The lowest list is named. The sum is that of the right counts.
-    booked(ALL_THREE, book(2, 6, 3, 7, [1, 5, 0, 1]));
-    booked(FREE_COUNT, book(2, 6, 3, 7, [2, 3, 0, 3]));
+    booked(rt, ALL_THREE, book(2, 6, 3, 7, [1, 5, 0, 1]))?;
+    booked(rt, FREE_COUNT, book(2, 6, 3, 7, [2, 3, 0, 3]))
 }
 
-pub(crate) fn rules() {
-    nine_to_eleven();
-    twelve_to_fifteen();
-    fifteen_or_sixteen();
-    sixteen();
+pub(crate) fn rules(rt: &impl Print) -> io::Result<()> {
+    nine_to_eleven(rt)?;
+    twelve_to_fifteen(rt)?;
+    fifteen_or_sixteen(rt)?;
+    sixteen(rt)
 }

@@ -1,6 +1,7 @@
 // The ten calls and the four quick ones. Each writes the number that it gives and what it returns.
 use crate::out;
 use books::{Answer, Book, Length, Popped, Read, Refusal};
+use std::io;
 
 // A step is one of these, with the list and the value or the place added: `PUSH_BACK + LIST_1 + 60`. They are the rows of 01's table.
 pub(crate) const SETUP: u64 = 0;
@@ -57,77 +58,102 @@ fn eight(two: u64) -> [u16; 8] {
 }
 
 // What a setup, a push or a clear gives; it returns the book alone.
-fn changed(answer: Answer) -> Book {
-    out::given(answer.refusal, 0);
-    answer.book
+fn changed(rt: &impl Print, answer: Answer) -> io::Result<Book> {
+    out::given(rt, answer.refusal, 0)?;
+    Ok(answer.book)
 }
 
 // What a pop gives.
-fn popped(answer: Popped) -> Book {
+fn popped(rt: &impl Print, answer: Popped) -> io::Result<Book> {
     let given = answer.given;
-    out::given(given.refusal, given.value);
-    answer.book
+    out::given(rt, given.refusal, given.value)?;
+    Ok(answer.book)
 }
 
 // One call that may change the pool and the book.
-pub(crate) fn change(links: &mut [u16], values: &mut [u64], book: Book, step: u64) -> Book {
+pub(crate) fn change(
+    rt: &impl Print,
+    links: &mut [u16],
+    values: &mut [u64],
+    book: Book,
+    step: u64,
+) -> io::Result<Book> {
     let list = list_of(step);
     let value = value_of(step);
-    out::call(step);
+    out::call(rt, step)?;
     match call_of(step) {
         SETUP => {
             let shares = eight(value / 100);
-            return changed(shares::setup::setup(links, values, list, shares, eight(value)));
+            changed(
+                rt,
+                shares::setup::setup(links, values, list, shares, eight(value)),
+            )
         }
-        PUSH_BACK => return changed(shares::ends::push_back(links, values, book, list, value)),
-        PUSH_FRONT => return changed(shares::ends::push_front(links, values, book, list, value)),
-        POP_BACK => return popped(shares::ends::pop_back(links, values, book, list)),
-        POP_FRONT => return popped(shares::ends::pop_front(links, values, book, list)),
-        QUICK_PUSH_BACK => return changed(shares::quick::quick_push_back(
-            links, values, book, list, value,
-        )),
-        QUICK_PUSH_FRONT => return changed(shares::quick::quick_push_front(
-            links, values, book, list, value,
-        )),
-        QUICK_POP_BACK => return popped(shares::quick::quick_pop_back(links, values, book, list)),
-        QUICK_POP_FRONT => return popped(shares::quick::quick_pop_front(links, values, book, list)),
-        _ => return changed(shares::clear::clear(links, values, book, list)),
+        PUSH_BACK => changed(
+            rt,
+            shares::ends::push_back(links, values, book, list, value),
+        ),
+        PUSH_FRONT => changed(
+            rt,
+            shares::ends::push_front(links, values, book, list, value),
+        ),
+        POP_BACK => popped(rt, shares::ends::pop_back(links, values, book, list)),
+        POP_FRONT => popped(rt, shares::ends::pop_front(links, values, book, list)),
+        QUICK_PUSH_BACK => changed(
+            rt,
+            shares::quick::quick_push_back(links, values, book, list, value),
+        ),
+        QUICK_PUSH_FRONT => changed(
+            rt,
+            shares::quick::quick_push_front(links, values, book, list, value),
+        ),
+        QUICK_POP_BACK => popped(rt, shares::quick::quick_pop_back(links, values, book, list)),
+        QUICK_POP_FRONT => popped(
+            rt,
+            shares::quick::quick_pop_front(links, values, book, list),
+        ),
+        _ => changed(rt, shares::clear::clear(links, values, book, list)),
     }
 }
 
 // What a check gives.
-fn checked(refusal: Refusal) {
-    out::given(refusal, 0);
+fn checked(rt: &impl Print, refusal: Refusal) -> io::Result<()> {
+    out::given(rt, refusal, 0)
 }
 
 // What a read gives.
-fn counted(read: Read) {
-    out::given(read.refusal, out::wide(read.count));
+fn counted(rt: &impl Print, read: Read) -> io::Result<()> {
+    out::given(rt, read.refusal, out::wide(read.count))
 }
 
 // What length gives.
-fn measured(found: Length) {
-    out::given(found.refusal, out::wide(found.length));
+fn measured(rt: &impl Print, found: Length) -> io::Result<()> {
+    out::given(rt, found.refusal, out::wide(found.length))
 }
 
 // One call that may change the buffer alone, of eight places that hold 7.
-pub(crate) fn look(links: &[u16], values: &[u64], book: Book, step: u64) {
+pub(crate) fn look(
+    rt: &impl Print,
+    links: &[u16],
+    values: &[u64],
+    book: Book,
+    step: u64,
+) -> io::Result<()> {
     let list = list_of(step);
     let at = value_of(step) as usize;
     let mut buffer = [7u64; 8];
-    out::call(step);
+    out::call(rt, step)?;
     match call_of(step) {
-        CHECK => checked(shares::check::check(links, values, book)),
-        LENGTH => measured(shares::reads::length(links, values, book, list)),
-        READ_FORWARD => counted(shares::reads::read_forward(
-            links,
-            values,
-            book,
-            list,
-            &mut buffer,
-            at,
-        )),
-        _ => counted(shares::reads::read_backward(links, values, book, list, &mut buffer, at)),
+        CHECK => checked(rt, shares::check::check(links, values, book))?,
+        LENGTH => measured(rt, shares::reads::length(links, values, book, list))?,
+        READ_FORWARD => counted(
+            rt,
+            shares::reads::read_forward(links, values, book, list, &mut buffer, at),
+        )?,
+        _ => counted(
+            rt,
+            shares::reads::read_backward(links, values, book, list, &mut buffer, at),
+        )?,
     }
-    out::buffer(&buffer);
+    out::buffer(rt, &buffer)
 }

@@ -3,7 +3,7 @@ ghost use Rattle.std.specs.Prelude.{◌<◌};
 
 use crate::calls::{QUICK, list_of, value_of};
 use books::{Book, Refusal};
-use libc::STDOUT_FILENO;
+use std::io;
 
 // The calls by the rows of 01's table, each of thirteen letters with the blanks.
 const NAMES: [u8; 130] =
@@ -26,95 +26,92 @@ pub(crate) fn wide(x: u16) -> u64 {
     x as u64
 }
 
-pub(crate) fn say(text: &[u8]) {
-    io::write_all(STDOUT_FILENO, text);
+pub(crate) fn say(rt: &impl Print, text: &[u8]) -> io::Result<()> {
+    rt.write_all(text)
 }
 
 // A title without the blanks behind it.
-pub(crate) fn title(title: [u8; 16]) {
-    let mut k: usize = 16;
-    while 0 < k {
-        if title[k - 1] != b' ' {
-            break;
+pub(crate) fn title(rt: &impl Print, title: [u8; 16]) -> io::Result<()> {
+    for k in (0..16).rev() {
+        if title[k] != b' ' {
+            return say(rt, &title[..k + 1]);
         }
-        k -= 1;
     }
-    say(&title[0..k]);
+    Ok(())
 }
 
-pub(crate) fn text(text: [u8; 8]) {
-    say(&text);
+pub(crate) fn text(rt: &impl Print, text: [u8; 8]) -> io::Result<()> {
+    say(rt, &text)
 }
 
-fn letter(letter: u8) {
-    say(&[letter]);
+fn letter(rt: &impl Print, letter: u8) -> io::Result<()> {
+    say(rt, &[letter])
 }
 
 // A blank line behind a pool.
-pub(crate) fn end() {
-    say(b"\n\n");
+pub(crate) fn end(rt: &impl Print) -> io::Result<()> {
+    say(rt, b"\n\n")
 }
 
 // A blank and a number.
-fn number(n: u64) {
-    letter(b' ');
-    io::print_decimal(STDOUT_FILENO, n);
+fn number(rt: &impl Print, n: u64) -> io::Result<()> {
+    letter(rt, b' ')?;
+    rt.print(n)
 }
 
 // The name of the call in a row of 01's table.
-fn name(row: u64) {
+fn name(rt: &impl Print, row: u64) -> io::Result<()> {
     let from = (row % 10 * 13) as usize;
     let names = NAMES;
-    say(&names[from..from + 13]);
+    say(rt, &names[from..from + 13])
 }
 
 // A call with its list and its value or place, on a line of its own.
-pub(crate) fn call(step: u64) {
-    letter(b'\n');
+pub(crate) fn call(rt: &impl Print, step: u64) -> io::Result<()> {
+    letter(rt, b'\n')?;
     if QUICK <= step {
-        say(b"quick ");
+        say(rt, b"quick ")?;
     }
-    name(step / 100000);
-    number(wide(list_of(step)));
-    number(value_of(step));
+    name(rt, step / 100000)?;
+    number(rt, wide(list_of(step)))?;
+    number(rt, value_of(step))
 }
 
 // The place of a broken rule. A number below 9, and 17, names no rule and has none: a place that it has all the same is shown.
-fn place(refusal: Refusal) {
+fn place(rt: &impl Print, refusal: Refusal) -> io::Result<()> {
     if refusal.number % 17 < 9 && refusal.list | refusal.position == 0 {
-        return;
+        return Ok(());
     }
-    text(AT_LIST);
-    number(wide(refusal.list));
-    say(b" position");
-    number(wide(refusal.position));
+    text(rt, AT_LIST)?;
+    number(rt, wide(refusal.list))?;
+    say(rt, b" position")?;
+    number(rt, wide(refusal.position))
 }
 
 // What it gives.
-pub(crate) fn given(refusal: Refusal, value: u64) {
-    text(NUMBER);
-    number(wide(refusal.number));
-    place(refusal);
-    letter(b',');
-    text(RETURNS);
-    number(value);
+pub(crate) fn given(rt: &impl Print, refusal: Refusal, value: u64) -> io::Result<()> {
+    text(rt, NUMBER)?;
+    number(rt, wide(refusal.number))?;
+    place(rt, refusal)?;
+    letter(rt, b',')?;
+    text(rt, RETURNS)?;
+    number(rt, value)
 }
 
 // How many lists there are, the free head and the free count, then head, tail, share, limit and length of each entry.
-pub(crate) fn book(book: Book) {
+pub(crate) fn book(rt: &impl Print, book: Book) -> io::Result<()> {
     let words = pools::words::words_of(book);
-    let mut k: usize = 1;
-    say(b", book");
-    number(wide(words[0]));
-    number(wide(words[41]));
-    number(wide(words[42]));
-    while k < 41 {
+    say(rt, b", book")?;
+    number(rt, wide(words[0]))?;
+    number(rt, wide(words[41]))?;
+    number(rt, wide(words[42]))?;
+    for k in 1..41 {
         if k % 5 == 1 {
-            letter(b',');
+            letter(rt, b',')?;
         }
-        number(wide(words[k]));
-        k += 1;
+        number(rt, wide(words[k]))?;
     }
+    Ok(())
 }
 
 // Is cell `k` shown? Of a row of more than forty the first three and the last three are.
@@ -131,40 +128,38 @@ fn is_shown(size: usize, k: usize) -> bool
 }
 
 // A cell, behind a blank, a comma, or dots where cells are left out.
-fn cell(size: usize, k: usize, cell: u64)
+fn cell(rt: &impl Print, size: usize, k: usize, cell: u64) -> io::Result<()>
     requires { k < size }
 {
     if k == 0 {
-        letter(b' ');
+        letter(rt, b' ')?;
     } else if 40 < size && size - k == 3 {
-        say(b" .. ");
+        say(rt, b" .. ")?;
     } else {
-        letter(b',');
+        letter(rt, b',')?;
     }
-    io::print_decimal(STDOUT_FILENO, cell);
+    rt.print(cell)
 }
 
-pub(crate) fn cells(cells: &[u64]) {
-    let mut k: usize = 0;
-    while k < cells.len() {
+pub(crate) fn cells(rt: &impl Print, cells: &[u64]) -> io::Result<()> {
+    for k in 0..cells.len() {
         if is_shown(cells.len(), k) {
-            cell(cells.len(), k, cells[k]);
+            cell(rt, cells.len(), k, cells[k])?;
         }
-        k += 1;
     }
+    Ok(())
 }
 
-pub(crate) fn links(links: &[u16]) {
-    let mut k: usize = 0;
-    while k < links.len() {
+pub(crate) fn links(rt: &impl Print, links: &[u16]) -> io::Result<()> {
+    for k in 0..links.len() {
         if is_shown(links.len(), k) {
-            cell(links.len(), k, wide(links[k]));
+            cell(rt, links.len(), k, wide(links[k]))?;
         }
-        k += 1;
     }
+    Ok(())
 }
 
-pub(crate) fn buffer(buffer: &[u64; 8]) {
-    text(BUFFER);
-    cells(buffer);
+pub(crate) fn buffer(rt: &impl Print, buffer: &[u64; 8]) -> io::Result<()> {
+    text(rt, BUFFER)?;
+    cells(rt, buffer)
 }

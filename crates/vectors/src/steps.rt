@@ -5,6 +5,7 @@ use crate::calls::{
 };
 use crate::{calls, out};
 use books::Book;
+use std::io;
 
 // A setup has its lists for the list, and four digits for the shares and the limits of the first two.
 const STEPS: [u64; 35] = [
@@ -84,32 +85,35 @@ fn step(k: usize) -> u64 {
 }
 
 // What stands in the pool and in the book.
-fn show(links: &[u16], values: &[u64], book: Book) {
-    out::text(out::LINKS);
-    out::links(links);
-    out::text(out::VALUES);
-    out::cells(values);
-    out::book(book);
+fn show(rt: &impl Print, links: &[u16], values: &[u64], book: Book) -> io::Result<()> {
+    out::text(rt, out::LINKS)?;
+    out::links(rt, links)?;
+    out::text(rt, out::VALUES)?;
+    out::cells(rt, values)?;
+    out::book(rt, book)
 }
 
-fn account(links: &[u16], values: &[u64], book: Book) {
-    let mut k: usize = 0;
-    show(links, values, book);
-    while k < 11 {
-        calls::look(links, values, book, LOOKS[k]);
-        k += 1;
+fn account(rt: &impl Print, links: &[u16], values: &[u64], book: Book) -> io::Result<()> {
+    show(rt, links, values, book)?;
+    for k in 0..11 {
+        calls::look(rt, links, values, book, LOOKS[k])?;
     }
-    out::end();
+    out::end(rt)
 }
 
 // The steps from `from` up to `to` on a pool, each behind what stands there before it, and then its account.
-pub(crate) fn run(links: &mut [u16], values: &mut [u64], begun: Book, from: usize, to: usize) {
+pub(crate) fn run(
+    rt: &impl Print,
+    links: &mut [u16],
+    values: &mut [u64],
+    begun: Book,
+    from: usize,
+    to: usize,
+) -> io::Result<()> {
     let mut book = begun;
-    let mut k = from;
-    while k < to {
-        show(links, values, book);
-        book = calls::change(links, values, book, step(k));
-        k += 1;
+    for k in from..to {
+        show(rt, links, values, book)?;
+        book = calls::change(rt, links, values, book, step(k))?;
     }
-    account(links, values, book);
+    account(rt, links, values, book)
 }

@@ -9,9 +9,9 @@ use Rattle.books.proofs.Tests.{or_zero}
 use Rattle.books.proofs.Eight.{zero_adds, zero_past}
 use Rattle.pools.proofs.book.keeps_one.Goals as goal
 
-in-turn : (a b c : Bool) → (a && b) && c ≡ a && (b && c)
-in-turn true b c = refl
-in-turn false b c = refl
+in_turn : (a b c : Bool) → (a && b) && c ≡ a && (b && c)
+in_turn true b c = refl
+in_turn false b c = refl
 
 alone : (a : Bool) → a && true ≡ a
 alone true = refl
@@ -24,7 +24,7 @@ loop-list-preserved c =
     record {
       same =
           rw (or_zero at.bits c.bits_of-bits.result, c.bits_of-bits.ensures)
-          (in-turn (eqb at.bits 0) (is_zero (entries at.list)) _
+          (in_turn (eqb at.bits 0) (is_zero (entries at.list)) _
           ∙ ap (λ (z : Bool). eqb at.bits 0 && z) (sym (zero_adds entries at.list (omega arith)))
           ∙ at.invariant.same);
       within = omega arith;

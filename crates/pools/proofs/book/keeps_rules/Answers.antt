@@ -16,9 +16,9 @@ use Rattle.books.proofs.Flat.{entries_many}
 use Rattle.pools.proofs.book.keeps_rules.Goals as goal
 
 -- a share within its limit, and that within the pool, is itself below the pool's size
-fair-share : (size : ℕ) (e : Entry) → is_fair size e && ltb e.share size ≡ is_fair size e
+fair_share : (size : ℕ) (e : Entry) → is_fair size e && ltb e.share size ≡ is_fair size e
 unfolding is_fair
-fair-share size e = go (leb e.share e.limit) (ltb e.limit size) refl refl
+fair_share size e = go (leb e.share e.limit) (ltb e.limit size) refl refl
   where
     go : (x y : Bool) → leb e.share e.limit ≡ x → ltb e.limit size ≡ y → (leb e.share e.limit && ltb e.limit size) && ltb e.share size ≡ leb e.share e.limit && ltb e.limit size
     go true true p q = rw (p, q, lt-ltb e.share size (omega (arith, leb-true e.share e.limit p, ltb-true e.limit size q))) refl
@@ -27,15 +27,15 @@ fair-share size e = go (leb e.share e.limit) (ltb e.limit size) refl refl
 
 -- so the shares of one list are below it where the list is fair
 module _ (f : ℕ → Entry) (size : ℕ) where
-  one-fair : gather size (take 1 (tabulate 8 f)) 0 ≡ is_fair size (f 0)
-  one-fair =
+  one_fair : gather size (take 1 (tabulate 8 f)) 0 ≡ is_fair size (f 0)
+  one_fair =
       fair_adds f 1 (omega arith) size 0 0 (omega arith)
       ∙ ap (λ (z : Bool). is_fair size (f 0) && z) (fair_past f 1 (omega arith) size 1 (0 + (f 0).share) (omega arith))
       ∙ ap (λ (n : ℕ). is_fair size (f 0) && ltb n size) (omega arith)
-      ∙ fair-share size (f 0)
+      ∙ fair_share size (f 0)
 
   one_list : (lists : ℕ) → lists ≡ 1 → rules_hold size 8 lists (tabulate 8 f) ≡ is_fair size (f 0) && all_zero (drop 1 (tabulate 8 f))
-  one_list lists e = rw (e, le-leb 1 (length (tabulate 8 f)) (omega (arith, tabulate-length 8 f))) (ap (λ (z : Bool). z && all_zero (drop 1 (tabulate 8 f))) one-fair)
+  one_list lists e = rw (e, le-leb 1 (length (tabulate 8 f)) (omega (arith, tabulate-length 8 f))) (ap (λ (z : Bool). z && all_zero (drop 1 (tabulate 8 f))) one_fair)
 
 pub returns-then-lists-eq1 : goal.returns-then-lists-eq1
 unfolding keeps_rules

@@ -15,17 +15,17 @@ module _ (words : List ℕ) (l head tail : ℕ) where
   abbrev two : List ℕ
   two = set (set words (5 * l + 1) head) (5 * l + 2) tail
 
-  share-there : get_or words (5 * l + 3) 0 ≡ get_or two (5 * l + 3) 0
-  share-there = sym (get_or-set_other (set words (5 * l + 1) head) (5 * l + 2) (5 * l + 3) tail 0 (λ e. omega (arith, e)) ∙ get_or-set_other words (5 * l + 1) (5 * l + 3) head 0 (λ e. omega (arith, e)))
+  share_there : get_or words (5 * l + 3) 0 ≡ get_or two (5 * l + 3) 0
+  share_there = sym (get_or-set_other (set words (5 * l + 1) head) (5 * l + 2) (5 * l + 3) tail 0 (λ e. omega (arith, e)) ∙ get_or-set_other words (5 * l + 1) (5 * l + 3) head 0 (λ e. omega (arith, e)))
 
-  limit-there : get_or words (5 * l + 4) 0 ≡ get_or two (5 * l + 4) 0
-  limit-there = sym (get_or-set_other (set words (5 * l + 1) head) (5 * l + 2) (5 * l + 4) tail 0 (λ e. omega (arith, e)) ∙ get_or-set_other words (5 * l + 1) (5 * l + 4) head 0 (λ e. omega (arith, e)))
+  limit_there : get_or words (5 * l + 4) 0 ≡ get_or two (5 * l + 4) 0
+  limit_there = sym (get_or-set_other (set words (5 * l + 1) head) (5 * l + 2) (5 * l + 4) tail 0 (λ e. omega (arith, e)) ∙ get_or-set_other words (5 * l + 1) (5 * l + 4) head 0 (λ e. omega (arith, e)))
 
   -- the share and the limit stored as they are
   stay : set (set two (5 * l + 3) (get_or words (5 * l + 3) 0)) (5 * l + 4) (get_or words (5 * l + 4) 0) ≡ two
   stay =
-      ap (λ (ws : List ℕ). set ws (5 * l + 4) (get_or words (5 * l + 4) 0)) (ap (set two (5 * l + 3)) share-there ∙ set-get_or two (5 * l + 3) 0)
-      ∙ ap (set two (5 * l + 4)) limit-there
+      ap (λ (ws : List ℕ). set ws (5 * l + 4) (get_or words (5 * l + 4) 0)) (ap (set two (5 * l + 3)) share_there ∙ set-get_or two (5 * l + 3) 0)
+      ∙ ap (set two (5 * l + 4)) limit_there
       ∙ set-get_or two (5 * l + 4) 0
 
 pub returns : goal.returns

@@ -1,7 +1,7 @@
 // The core below every face: a push, a pop and a clear on one list, handed its entry and the free record, and giving them back with the
 // number; a push also has what the check found that the lists lack. The value of a pop goes into the word that the caller lends, and
 // nowhere else. The pool must be sound: of any other the promises say what comes, but a call may answer 0 and have done nothing.
-ghost use Rattle.core.specs.Prelude.{◌≡◌};
+ghost use Rattle.std.specs.Prelude.{◌≡◌};
 ghost use Rattle.engines.specs.OnList.{on_list, push_on, pop_on};
 ghost use Rattle.xor.specs.Along.{clear_on_list};
 ghost use Rattle.xor.specs.Engine.{xor};

@@ -1,0 +1,14 @@
+-- `shares::reads::read_forward`: the read in the words that the book is.
+use Rattle.std.specs.Prelude.{◌≡◌, length}
+use mathlib.Core.Path.{ap, ◌∙◌}
+use borrow.Author.Rules.{rules}
+use Rattle.books.specs.declared.Book.{Book}
+use Rattle.xor.specs.Ten.{read_forward_of}
+use Rattle.shares.proofs.Reached.{words_book}
+use Rattle.shares.proofs.reads.read_forward.Goals as goal
+
+pub returns : goal.returns
+returns c =
+    let a = c.args in
+    let entries : length a.book.entries ≡ 8 = search rules in
+    c.read_words.ensures ∙ ap (λ (b : Book). read_forward_of a.links.now a.values.now b a.list a.buffer.now a.at) (words_book a.book entries c.words_of-words.ensures)
