@@ -1,6 +1,7 @@
 // The ten calls and the four quick ones. Each writes the number that it gives and what it returns.
 use crate::out;
 use books::{Answer, Book, Length, Popped, Read, Refusal};
+use shares::{check, clear, ends, quick, reads, setup};
 use std::io;
 
 // A step is one of these, with the list and the value or the place added: `PUSH_BACK + LIST_1 + 60`. They are the rows of 01's table.
@@ -84,35 +85,20 @@ pub(crate) fn change(
     match call_of(step) {
         SETUP => {
             let shares = eight(value / 100);
-            changed(
-                rt,
-                shares::setup::setup(links, values, list, shares, eight(value)),
-            )
+            changed(rt, setup::setup(links, values, list, shares, eight(value)))
         }
-        PUSH_BACK => changed(
-            rt,
-            shares::ends::push_back(links, values, book, list, value),
-        ),
-        PUSH_FRONT => changed(
-            rt,
-            shares::ends::push_front(links, values, book, list, value),
-        ),
-        POP_BACK => popped(rt, shares::ends::pop_back(links, values, book, list)),
-        POP_FRONT => popped(rt, shares::ends::pop_front(links, values, book, list)),
-        QUICK_PUSH_BACK => changed(
-            rt,
-            shares::quick::quick_push_back(links, values, book, list, value),
-        ),
+        PUSH_BACK => changed(rt, ends::push_back(links, values, book, list, value)),
+        PUSH_FRONT => changed(rt, ends::push_front(links, values, book, list, value)),
+        POP_BACK => popped(rt, ends::pop_back(links, values, book, list)),
+        POP_FRONT => popped(rt, ends::pop_front(links, values, book, list)),
+        QUICK_PUSH_BACK => changed(rt, quick::quick_push_back(links, values, book, list, value)),
         QUICK_PUSH_FRONT => changed(
             rt,
-            shares::quick::quick_push_front(links, values, book, list, value),
+            quick::quick_push_front(links, values, book, list, value),
         ),
-        QUICK_POP_BACK => popped(rt, shares::quick::quick_pop_back(links, values, book, list)),
-        QUICK_POP_FRONT => popped(
-            rt,
-            shares::quick::quick_pop_front(links, values, book, list),
-        ),
-        _ => changed(rt, shares::clear::clear(links, values, book, list)),
+        QUICK_POP_BACK => popped(rt, quick::quick_pop_back(links, values, book, list)),
+        QUICK_POP_FRONT => popped(rt, quick::quick_pop_front(links, values, book, list)),
+        _ => changed(rt, clear::clear(links, values, book, list)),
     }
 }
 
@@ -144,15 +130,15 @@ pub(crate) fn look(
     let mut buffer = [7u64; 8];
     out::call(rt, step)?;
     match call_of(step) {
-        CHECK => checked(rt, shares::check::check(links, values, book))?,
-        LENGTH => measured(rt, shares::reads::length(links, values, book, list))?,
+        CHECK => checked(rt, check::check(links, values, book))?,
+        LENGTH => measured(rt, reads::length(links, values, book, list))?,
         READ_FORWARD => counted(
             rt,
-            shares::reads::read_forward(links, values, book, list, &mut buffer, at),
+            reads::read_forward(links, values, book, list, &mut buffer, at),
         )?,
         _ => counted(
             rt,
-            shares::reads::read_backward(links, values, book, list, &mut buffer, at),
+            reads::read_backward(links, values, book, list, &mut buffer, at),
         )?,
     }
     out::buffer(rt, &buffer)
