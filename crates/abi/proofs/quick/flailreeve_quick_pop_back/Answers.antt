@@ -1,16 +1,31 @@
-use Rattle.std.proofs.Common.{rules, ◌≡◌, ℕ, ◌+◌, ◌-◌, ◌*◌, ◌<◌, ◌≤◌, length, ◌/◌, ◌%◌, Bool, true, false, nat_eq, nat_lt, List, [], ◌∷◌, ◌++◌, slice_index_or, slice_set, bit_and, bit_or, Fits, w8, w32, w64, Bor, MutBor}
-use Rattle.books.specs.Outcome.{outcome}
-use Rattle.faces.specs.Quick.{quick_pushed, quick_popped, quick_push_back_face, quick_push_front_face, quick_pop_back_face, quick_pop_front_face}
+-- `abi::quick::flailreeve_quick_pop_back`: what the first tests promise, and what the pop on the list gives back.
+use mathlib.Core.Path.{refl, sym, ap, ◌∙◌}
+use Rattle.books.specs.declared.Free.{Free}
+use Rattle.books.specs.declared.Entry.{Entry}
+use Rattle.books.specs.Book.{eight, entry_at}
+use Rattle.books.specs.Words.{book_from}
+use Rattle.shapes.specs.declared.End.TheVariants.{Back}
+use Rattle.engines.specs.Quick.{quick_pop_on}
+use Rattle.xor.specs.Engine.{xor}
+use Rattle.shares.proofs.QuickReached.{quick_pop_early, quick_pop_put}
+use Rattle.faces.proofs.Kept.{kept_refused}
+use Rattle.abi.proofs.Thin.{quick_popped_by}
+use Rattle.abi.proofs.Granted.{quick_pop_grants}
 use Rattle.abi.proofs.quick.flailreeve_quick_pop_back.Goals as goal
 
--- src/quick.rt:66:9
 pub returns-then-number-ne0 : goal.returns-then-number-ne0
-returns-then-number-ne0 c = ?
+returns-then-number-ne0 c =
+    let a = c.args in
+    quick_popped_by _ refl refl (sym (kept_refused _ _ _ c.if-number-ne0.true)) (quick_pop_early _ _ (eight (book_from a.book.now)) a.list c.early-number.ensures c.if-number-ne0.true Back refl refl)
 
--- src/quick.rt:71:5
 pub keep-requires : goal.keep-requires
-keep-requires c = ?
+keep-requires c = quick_pop_grants _ _ _ _ _ c.pop_back_on-gone.ensures c.entry_of-entry.ensures
 
--- src/quick.rt:53:1
 pub returns : goal.returns
-returns c = ?
+returns c =
+    let a = c.args in
+    let q =
+    c.pop_back_on-gone.ensures
+    ∙ ap (λ (x : Entry). quick_pop_on xor Back a.links.now a.values.now x c.free_of-free.result) c.entry_of-entry.ensures
+    ∙ ap (λ (x : Free). quick_pop_on xor Back a.links.now a.values.now (entry_at (book_from a.book.now).entries a.list) x) c.free_of-free.ensures in
+    quick_popped_by _ c.keep.ensures.0 refl c.keep.ensures.1 (quick_pop_put _ _ (eight (book_from a.book.now)) a.list c.early-number.ensures c.if-number-ne0.false refl refl Back refl refl q)

@@ -1,16 +1,25 @@
-use Rattle.std.proofs.Common.{rules, ◌≡◌, ℕ, ◌+◌, ◌-◌, ◌*◌, ◌<◌, ◌≤◌, length, ◌/◌, ◌%◌, Bool, true, false, nat_eq, nat_lt, List, [], ◌∷◌, ◌++◌, slice_index_or, slice_set, bit_and, bit_or, Fits, w8, w32, w64, Bor, MutBor}
-use Rattle.books.specs.Outcome.{outcome}
-use Rattle.faces.specs.Quick.{quick_pushed, quick_popped, quick_push_back_face, quick_push_front_face, quick_pop_back_face, quick_pop_front_face}
+-- `abi::quick::flailreeve_quick_push_back`: what the first tests promise, and what the push on the list gives back.
+use mathlib.Core.Path.{refl, sym}
+use Rattle.books.specs.Book.{eight}
+use Rattle.books.specs.Words.{book_from}
+use Rattle.shapes.specs.declared.End.TheVariants.{Back}
+use Rattle.shares.proofs.QuickReached.{quick_push_early, quick_push_put}
+use Rattle.faces.proofs.Kept.{kept_refused}
+use Rattle.abi.proofs.Thin.{quick_pushed_by}
+use Rattle.abi.proofs.Granted.{quick_push_grants}
 use Rattle.abi.proofs.quick.flailreeve_quick_push_back.Goals as goal
 
--- src/quick.rt:24:9
 pub returns-then-number-ne0 : goal.returns-then-number-ne0
-returns-then-number-ne0 c = ?
+returns-then-number-ne0 c =
+    let a = c.args in
+    quick_pushed_by _ refl (sym (kept_refused _ _ _ c.if-number-ne0.true)) (quick_push_early _ _ (eight (book_from a.book.now)) a.list c.early_lacks-number.ensures.0 c.if-number-ne0.true Back refl a.value)
 
--- src/quick.rt:29:5
 pub keep-requires : goal.keep-requires
-keep-requires c = ?
+keep-requires c = quick_push_grants _ _ _ _ _ _ _ c.push_back_on-gone.ensures c.entry_of-entry.ensures
 
--- src/quick.rt:11:1
 pub returns : goal.returns
-returns c = ?
+returns c =
+    let a = c.args in
+    let lacks = c.early_lacks-number.ensures.1 c.if-number-ne0.false in
+    let q = rw (c.entry_of-entry.ensures, c.free_of-free.ensures) at c.push_back_on-gone.ensures in
+    quick_pushed_by _ c.keep.ensures.0 c.keep.ensures.1 (quick_push_put _ _ (eight (book_from a.book.now)) a.list c.early_lacks-number.ensures.0 c.if-number-ne0.false refl refl Back refl a.value lacks q)
