@@ -246,7 +246,9 @@ fn push_beside(
     done_push(with_near(end, slot, list), rest)
 }
 
-// The slot at an end leaves the list. All tests stand before the first store.
+// The slot at an end leaves the list. All tests stand before the first store. It is always inlined: a call would hand the value over in
+// memory, and leave it in the dead stack.
+#[inline(always)]
 fn pop(links: &mut [u16], values: &mut [u64], end: End, list: Entry, free: Free) -> PopStep
     ensures { outcome result links.new values.new ≡ pop_of end links.old values.old list free }
 {
