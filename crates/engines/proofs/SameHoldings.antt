@@ -153,13 +153,13 @@ module _ {E : Engine} (L : Lawful E) {st t : State E} (H : SameHoldings E st t) 
         go (no d) = unlisted L S (beyond d).0 (clear_given L st.links st.values st.book l) ∙ sym (unlisted L T (beyond d).1 (clear_given L t.links t.values t.book l))
         go (yes b) = clear_zero L S l b ∙ sym (clear_zero L T l (there b))
 
-  pub same_numbers : (m : Move) → number_of E st m ≡ number_of E t m
-  same_numbers check = (check_accepts L st.links st.values st.book).1 (_, S) ∙ sym ((check_accepts L t.links t.values t.book).1 (_, T))
-  same_numbers (ask_length l) = length_number_same l
-  same_numbers (push_back l value) = push_number_same l Back value
-  same_numbers (push_front l value) = push_number_same l Front value
-  same_numbers (pop_back l) = pop_number_same l Back
-  same_numbers (pop_front l) = pop_number_same l Front
-  same_numbers (read_forward l buffer at) = read_number_same l Front buffer at
-  same_numbers (read_backward l buffer at) = read_number_same l Back buffer at
-  same_numbers (clear l) = clear_number_same l
+  pub same_numbers_lem : (m : Move) → number_of E st m ≡ number_of E t m
+  same_numbers_lem check = (check_accepts L st.links st.values st.book).1 (_, S) ∙ sym ((check_accepts L t.links t.values t.book).1 (_, T))
+  same_numbers_lem (ask_length l) = length_number_same l
+  same_numbers_lem (push_back l value) = push_number_same l Back value
+  same_numbers_lem (push_front l value) = push_number_same l Front value
+  same_numbers_lem (pop_back l) = pop_number_same l Back
+  same_numbers_lem (pop_front l) = pop_number_same l Front
+  same_numbers_lem (read_forward l buffer at) = read_number_same l Front buffer at
+  same_numbers_lem (read_backward l buffer at) = read_number_same l Back buffer at
+  same_numbers_lem (clear l) = clear_number_same l

@@ -19,7 +19,7 @@ use Rattle.shapes.specs.Moves as M
 use Rattle.shapes.specs.Ledger.{Ledger, noted_done, one_pair}
 use Rattle.engines.specs.Moves.{State, number_of}
 use Rattle.engines.specs.Undo.{SameHoldings}
-use Rattle.engines.proofs.SameHoldings.{same_numbers}
+use Rattle.engines.proofs.SameHoldings.{same_numbers_lem}
 use Rattle.xor.specs.Engine.{xor}
 use Rattle.xor.specs.Ten.{push_back_of, push_front_of, pop_back_of, pop_front_of}
 use Rattle.xor.specs.Moves.{Pool, state_of, pool_left, pool_popped, given_by, after_by, noted_by}
@@ -145,7 +145,7 @@ module _ (links values words : List ℕ) where
   was = record { links = links; values = values; words = words }
 
   held_returns : (m : Memory) → HoldingsBefore links values words m → (move : Move) → returned m move ≡ returned was move
-  held_returns m H move = sym (named was ∙ same_numbers xor_lawful H move ∙ sym (named m))
+  held_returns m H move = sym (named was ∙ same_numbers_lem xor_lawful H move ∙ sym (named m))
     where
       named : (n : Memory) → returned n move ≡ number_of xor (state_in n) move
       named n = returned_told n move ∙ number_told (pool_of n) move
