@@ -21,5 +21,6 @@ returns-then-number-eq0 c =
 pub returns-else-number-eq0 : goal.returns-else-number-eq0
 returns-else-number-eq0 c =
     let a = c.args in
-    prepared_by _ refl (sym (kept_refused _ _ _ c.if-number-eq0.false))
-    (setup_whole a.links.now a.values.now a.lists a.shares.now a.limits.now zero_book c.lay_out-number.ensures (λ d. refl) (λ z. absurd (c.if-number-eq0.false z)))
+    let refused = c.if-number-eq0.false in
+    prepared_by _ refl (sym (kept_refused _ _ _ refused))
+    (setup_whole a.links.now a.values.now a.lists a.shares.now a.limits.now zero_book c.lay_out-number.ensures (λ d. refl) (λ z. absurd (refused z)))
