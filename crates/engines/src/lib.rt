@@ -1,3 +1,2 @@
 // What holds of every engine: no function.
 #![tactic(auto)]
-
