@@ -1,90 +1,131 @@
 // What is asked for: a call with its arguments, by dice. Many arguments are bad on purpose.
-use crate::desk::*;
+use crate::book::{Book, Entry};
+use crate::dice::Dice;
+use crate::kinds::End::{Back, Front};
+use crate::kinds::Kind::{Check, Clear, Length, Pop, Push, Read, Setup};
+use crate::kinds::{Call, Kind};
+use crate::model::{Model, State};
 
-// The calls while a pool is to fill, and while it is to empty.
-const KINDS: [u64; 32] = [
-    0, 1, 2, 3, 3, 3, 3, 4, 4, 4, 4, 5, 6, 7, 8, 9, 0, 1, 2, 3, 4, 5, 5, 5, 5, 6, 6, 6, 6, 7, 8, 9,
+// The calls while a pool is to fill.
+const FILLING: [Kind; 16] = [
+    Setup,
+    Check,
+    Length,
+    Push(Back),
+    Push(Back),
+    Push(Back),
+    Push(Back),
+    Push(Front),
+    Push(Front),
+    Push(Front),
+    Push(Front),
+    Pop(Back),
+    Pop(Front),
+    Read(Front),
+    Read(Back),
+    Clear,
+];
+
+// The calls while it is to empty.
+const EMPTYING: [Kind; 16] = [
+    Setup,
+    Check,
+    Length,
+    Push(Back),
+    Push(Front),
+    Pop(Back),
+    Pop(Back),
+    Pop(Back),
+    Pop(Back),
+    Pop(Front),
+    Pop(Front),
+    Pop(Front),
+    Pop(Front),
+    Read(Front),
+    Read(Back),
+    Clear,
 ];
 
 // Which call. A setup or a clear of a large pool is seldom, so that it may fill.
-fn kind(seed: u64, step: u64, size: u64) -> u64 {
-    let empties = step / (size % 8192 + 16) % 2;
-    let k = (empties * 16 + dice(seed, 1, 16) % 16) as usize;
-    let kind = KINDS[k];
+fn kind(dice: Dice, step: u32, size: u16) -> Kind {
+    let fills = step / (u32::from(size) + 16) % 2 == 0;
+    let kinds = if fills { FILLING } else { EMPTYING };
+    let kind = kinds[usize::from(dice.roll(1, 16) % 16)];
     match kind {
-        0 | 9 => match dice(seed, 2, plus(size / 64, 1)) {
-            0 => kind,
-            _ => 3,
-        },
+        Setup | Clear if dice.roll(2, size / 64 + 1) != 0 => Push(Back),
         _ => kind,
     }
 }
 
 // A list that there is, or now and then one that there is not.
-fn list(seed: u64, lists: u64) -> u64 {
-    let die = dice(seed, 3, 16);
-    match die {
-        0 => lists,
-        1 => plus(lists, dice(seed, 4, 60000)),
-        _ => dice(seed, 4, lists),
+fn list(dice: Dice, lists: u16) -> u32 {
+    match dice.roll(3, 16) {
+        0 => u32::from(lists),
+        1 => u32::from(lists) + u32::from(dice.roll(4, 60000)),
+        _ => u32::from(dice.roll(4, lists)),
     }
 }
 
 // How many cells are lent: all of the pool's, or now and then one more or one less. A damaged pool is lent as it is.
-fn length(seed: u64, k: u64, state: u64, size: u64) -> u64 {
-    let die = plus(state, dice(seed, 5, 8));
-    match die {
-        0 => minus(plus(size, dice(seed, k, 3)), 1),
-        _ => size,
+fn lent(dice: Dice, throw: u64, state: State, size: u16) -> u16 {
+    if state == State::Sound && dice.roll(5, 8) == 0 {
+        return size.wrapping_add(dice.roll(throw, 3)).wrapping_sub(1);
     }
+    size
 }
 
-// Shares and limits that keep the rules.
-fn ask_entries(desk: &mut Desk, seed: u64, lists: u64, most: u64) {
+// Shares and limits that keep the rules, for as many lists.
+fn entries(dice: Dice, lists: u16, most: u16) -> [Entry; 8] {
+    let mut entries = [Entry::ZERO; 8];
     let mut left = most;
-    for list in 0..lists {
-        let share = dice(seed, list ^ 16, plus(left / 2, 1));
-        let more = dice(seed, list ^ 24, plus(minus(most, share), 1));
-        set_four(desk, ASKED, list << 3, 0, 0, share, plus(share, more));
-        left = minus(left, share);
+    for (list, entry) in (0..u64::from(lists)).zip(&mut entries) {
+        let share = dice.roll(list ^ 16, left / 2 + 1);
+        let more = dice.roll(list ^ 24, most.wrapping_sub(share).wrapping_add(1));
+        entry.share = share;
+        entry.limit = share.wrapping_add(more);
+        left = left.wrapping_sub(share);
     }
+    entries
 }
 
-// What a setup asks for, and how many slots its lists have. In half of the cases one number is changed, but not at the first setup.
-fn ask_setup(desk: &mut Desk, seed: u64, state: u64, size: u64) {
-    let lists = plus(dice(seed, 6, 8), 1);
-    fill(desk, ASKED, 0, NUMBER);
-    set(desk, ASKED, LISTS, lists);
-    ask_entries(desk, seed, lists, minus(size, 1));
-    let k = dice(seed, 7, 34);
-    if k < 17 {
-        if state < 2 {
-            let other = dice(seed, 8, plus(size, 2));
-            set(desk, ASKED, ((k >> 1) << 3) | SHARE | (k & 1), other);
+// What a setup asks for. In half of the cases one number is changed, but not at the first setup.
+fn setup(dice: Dice, state: State, size: u16) -> Book {
+    let lists = dice.roll(6, 8) % 8 + 1;
+    let mut asked = Book {
+        lists,
+        entries: entries(dice, lists, size.wrapping_sub(1)),
+        ..Book::ZERO
+    };
+    let changed = dice.roll(7, 34);
+    if changed <= 16 && state != State::NotSetUp {
+        let other = dice.roll(8, size.wrapping_add(2));
+        match asked.entries.get_mut(usize::from(changed / 2)) {
+            Some(entry) if changed % 2 == 0 => entry.share = other,
+            Some(entry) => entry.limit = other,
+            None => asked.lists = other,
         }
     }
+    asked
 }
 
 // The call. Half of the pushes and pops are quick calls. A value is 0 now and then; a read has room enough, or too little, or begins past the buffer's end.
-pub(crate) fn ask(desk: &mut Desk, seed: u64, state: u64, size: u64) {
-    let list = list(seed, get(desk, BOOK, LISTS));
+pub(crate) fn ask(dice: Dice, model: &Model, step: u32) -> Call {
+    let Model { size, state, .. } = *model;
+    let list = list(dice, model.pool.book.lists);
     let kind = match state {
-        2 => 0,
-        _ => kind(seed, get(desk, NOTES, STEP), size),
+        State::NotSetUp => Setup,
+        _ => kind(dice, step, size),
     };
-    let quick = match kind {
-        3 | 4 | 5 | 6 => dice(seed, 34, 2) % 2 * 7,
-        _ => 0,
-    };
-    let value = dice(seed, 9, dice(seed, 10, 8) << 61);
-    let room = plus(get(desk, COUNTS, list), dice(seed, 11, 6));
-    let at = minus(dice(seed, 12, 8), 1);
-    let links = length(seed, 13, state, size);
-    let values = length(seed, 14, state, size);
-    set_four(desk, NOTES, KIND, kind, list, value, room);
-    set(desk, NOTES, QUICK, quick);
-    set_four(desk, NOTES, AT, at, links, values, plus(size, 80));
-    ask_setup(desk, seed, state, size);
-    set(desk, FRESH, FREE, minus(links, 1));
-    fill(desk, BUFFER, 7000000, plus(size, 80));
+    Call {
+        kind,
+        quick: kind.may_be_quick() && dice.roll(34, 2) == 1,
+        // A number of more than 16 bits comes only of a damaged book, whose rules are broken; the call is made on list 0.
+        list: u16::try_from(list).unwrap_or(0),
+        value: dice.wide(9, u64::from(dice.roll(10, 8)) << 61),
+        links: lent(dice, 13, state, size),
+        values: lent(dice, 14, state, size),
+        room: usize::from(model.length(list as usize)) + usize::from(dice.roll(11, 6)),
+        at: usize::from(dice.roll(12, 8)).wrapping_sub(1),
+        asked: setup(dice, state, size),
+    }
 }

@@ -1,197 +1,155 @@
 // The program's own reading of a pool: which of the rules 9 to 16 is broken first, and where. The chains are written out in full, and only
 // then looked at.
-use crate::desk::*;
+use crate::book::{Book, Refusal};
+use crate::deque::{self, CHAINS, Deque, FREE, Lengths};
+use crate::kinds::End;
+use crate::pool::{CELLS, NULL, Pool};
 use crate::sound;
 
-// No place: there is no fault.
-const NOWHERE: u64 = 65536;
-
-// A chain from its head on, up to its end, to the first slot that the pool does not have, or to as many slots as the pool has: in so many
-// one comes twice. Answers how many there are.
-fn write_chain(desk: &mut Desk, chain: u64, size: u64) -> u64 {
-    let mut last: u64 = 0;
-    let mut slot = get(desk, BOOK, chain << 3);
-    for many in 0..size {
-        if slot == 0 {
-            return many;
-        }
-        set(desk, plus(WRITTEN, chain), many, slot);
-        if size <= slot {
-            return many + 1;
-        }
-        let after = get(desk, LINKS, slot) ^ last;
-        last = sound::before(chain, slot);
-        slot = after;
-    }
-    size
+// A place of a chain.
+#[derive(Clone, Copy, PartialEq, Eq)]
+struct Mark {
+    chain: usize,
+    place: u16,
 }
 
-fn write_chains(desk: &mut Desk, size: u64) {
-    for chain in 0..9 {
-        let many = write_chain(desk, chain, size);
-        set(desk, LENGTHS, chain, many);
-    }
+// The chains as they are found in a pool, and for each slot where it is met first.
+#[derive(Clone, Copy)]
+pub(crate) struct Reading {
+    chains: [Deque; CHAINS],
+    marks: [Option<Mark>; CELLS],
 }
 
-// What tells a place of a chain from every other, and from 0.
-fn mark(chain: u64, place: u64) -> u64 {
-    (plus(chain, 1) << 13) | place
+// A chain from its head on, up to its end, to the first slot that the pool does not have, or to as many slots as the pool has.
+fn write_chain(slots: &mut Deque, pool: &Pool, chain: usize, size: u16) {
+    match sound::follow(
+        slots,
+        pool,
+        chain,
+        size,
+        |slot| slot == NULL || size <= slot,
+    ) {
+        None | Some(NULL) => {}
+        Some(slot) => slots.push_back(slot),
+    }
 }
 
 // Each slot of a chain is marked with its place, the last one first.
-fn mark_chain(desk: &mut Desk, chain: u64) {
-    for place in (0..get(desk, LENGTHS, chain)).rev() {
-        let slot = get(desk, plus(WRITTEN, chain), place);
-        set(desk, MARKS, slot, mark(chain, place));
-    }
-}
-
-// The free chain first and list 0 last, so that of several places the first one stays.
-fn mark_chains(desk: &mut Desk, size: u64) {
-    fill(desk, MARKS, 0, size);
-    for chain in (0..9).rev() {
-        mark_chain(desk, chain);
-    }
-}
-
-// Is a place of a chain wrong: its slot is none of the pool's, or it came before?
-fn is_wrong(desk: &Desk, chain: u64, place: u64, size: u64) -> bool {
-    let slot = get(desk, plus(WRITTEN, chain), place);
-    if size <= slot {
-        return true;
-    }
-    get(desk, MARKS, slot) != mark(chain, place)
-}
-
-// A list's length where its last slot is not its tail. The free chain has no tail.
-fn wrong_end(desk: &Desk, chain: u64) -> u64 {
-    let many = get(desk, LENGTHS, chain);
-    let last = get(desk, plus(WRITTEN, chain), minus(many, 1));
-    let tail = get(desk, BOOK, (chain << 3) | 1);
-    let differs = tail ^ last;
-    match chain {
-        FREE => NOWHERE,
-        _ => match differs {
-            0 => NOWHERE,
-            _ => many,
-        },
-    }
-}
-
-// The first wrong place of a chain, or its wrong end.
-fn wrong_place(desk: &Desk, chain: u64, size: u64) -> u64 {
-    for place in 0..get(desk, LENGTHS, chain) {
-        if is_wrong(desk, chain, place, size) {
-            return place;
+fn mark_chain(marks: &mut [Option<Mark>; CELLS], chain: usize, slots: &Deque) {
+    for place in (0..slots.length()).rev() {
+        let slot = slots.at(place).unwrap_or(NULL);
+        if let Some(mark) = marks.get_mut(usize::from(slot)) {
+            *mark = Some(Mark { chain, place });
         }
     }
-    wrong_end(desk, chain)
 }
 
-// The place is noted, and the number goes on.
-fn named(desk: &mut Desk, number: u64, list: u64, position: u64) -> u64 {
-    set(desk, NOTES, FAULT_LIST, list);
-    set(desk, NOTES, FAULT_POSITION, position);
-    number
-}
+impl Reading {
+    pub(crate) const NEW: Reading = Reading {
+        chains: [Deque::EMPTY; CHAINS],
+        marks: [None; CELLS],
+    };
 
-// 11 or 12, or 0. The entries past the lists are all 0 here, and so their chains are empty.
-fn chain_rule(desk: &mut Desk, size: u64) -> u64 {
-    for chain in 0..9 {
-        let place = wrong_place(desk, chain, size);
-        if place != NOWHERE {
-            return match chain {
-                FREE => named(desk, 12, 0, place),
-                _ => named(desk, 11, chain, place),
-            };
+    fn write_chains(&mut self, pool: &Pool, size: u16) {
+        for (chain, slots) in self.chains.iter_mut().enumerate() {
+            write_chain(slots, pool, chain, size);
         }
     }
-    0
-}
 
-// Which rule a slot breaks by itself, by its mark: 13 without one, 14 where it is free and has a value.
-fn rule_of(desk: &Desk, slot: u64) -> u64 {
-    let place = get(desk, MARKS, slot);
-    let value = get(desk, VALUES, slot);
-    let chain = minus(place >> 13, 1);
-    match place {
-        0 => 13,
-        _ => match chain {
-            FREE => match value {
-                0 => 0,
-                _ => 14,
-            },
-            _ => 0,
-        },
-    }
-}
-
-// 13 or 14 with the lowest slot that breaks it, or 0.
-fn slot_rule(desk: &mut Desk, number: u64, size: u64) -> u64 {
-    for slot in 1..size {
-        if rule_of(desk, slot) == number {
-            return named(desk, number, 0, slot);
+    // The free chain first and list 0 last, so that of several places the first one stays.
+    fn mark_chains(&mut self, size: u16) {
+        self.marks[..usize::from(size).min(CELLS)].fill(None);
+        for (chain, slots) in self.chains.iter().enumerate().rev() {
+            mark_chain(&mut self.marks, chain, slots);
         }
     }
-    0
-}
 
-// 15 or 0. A list past L has length 0 and limit 0.
-fn limit_rule(desk: &mut Desk) -> u64 {
-    for list in 0..8 {
-        if get(desk, BOOK, (list << 3) | LIMIT) < get(desk, LENGTHS, list) {
-            return named(desk, 15, list, 0);
+    fn mark(&self, slot: u16) -> Option<Mark> {
+        self.marks.get(usize::from(slot)).copied().flatten()
+    }
+
+    // The first wrong place of a chain: its slot is none of the pool's, or it came before. Or the chain's length, where its last slot is
+    // not its tail. The free chain has no tail.
+    fn wrong_place(&self, pool: &Pool, chain: usize, slots: &Deque, size: u16) -> Option<u16> {
+        for place in 0..slots.length() {
+            let slot = slots.at(place).unwrap_or(NULL);
+            if size <= slot || self.mark(slot) != Some(Mark { chain, place }) {
+                return Some(place);
+            }
         }
+        let tail = pool.book.entries.get(chain)?.tail;
+        let last = slots.from_end(End::Back, 0).unwrap_or(NULL);
+        (tail != last).then_some(slots.length())
     }
-    if get(desk, LENGTHS, FREE) < sound::lacks(desk, BOOK, LENGTHS) {
-        return named(desk, 15, get(desk, BOOK, LISTS), 0);
-    }
-    0
-}
 
-// 16 or 0: a stored count is not how many slots its chain has. An entry past L has length 0, and so has its chain.
-fn count_rule(desk: &mut Desk) -> u64 {
-    for chain in 0..9 {
-        if get(desk, BOOK, (chain << 3) | LENGTH) != get(desk, LENGTHS, chain) {
-            return match chain {
-                FREE => named(desk, 16, get(desk, BOOK, LISTS), 0),
-                _ => named(desk, 16, chain, 0),
-            };
+    // 11 or 12. The entries past the lists are all 0 here, and so their chains are empty.
+    fn chain_fault(&self, pool: &Pool, size: u16) -> Option<Refusal> {
+        for (chain, slots) in self.chains.iter().enumerate() {
+            if let Some(position) = self.wrong_place(pool, chain, slots, size) {
+                return Some(match chain {
+                    FREE => Refusal::at(12, 0, position),
+                    list => Refusal::at(11, list, position),
+                });
+            }
         }
+        None
     }
-    0
+
+    // 13, with the lowest slot that is in no chain.
+    fn unmet_fault(&self, size: u16) -> Option<Refusal> {
+        let slot = (1..size).find(|slot| self.mark(*slot).is_none())?;
+        Some(Refusal::at(13, 0, slot))
+    }
+
+    // 14, with the lowest free slot that has a value.
+    fn value_fault(&self, pool: &Pool, size: u16) -> Option<Refusal> {
+        let slot = (1..size).find(|slot| {
+            self.mark(*slot).is_some_and(|mark| mark.chain == FREE) && pool.value(*slot) != 0
+        })?;
+        Some(Refusal::at(14, 0, slot))
+    }
 }
 
-// 11 to 16, or 0.
-fn cells_rule(desk: &mut Desk, size: u64) -> u64 {
-    write_chains(desk, size);
-    mark_chains(desk, size);
-    let chains = chain_rule(desk, size);
-    if chains != 0 {
-        return chains;
-    }
-    let met = slot_rule(desk, 13, size);
-    if met != 0 {
-        return met;
-    }
-    let wiped = slot_rule(desk, 14, size);
-    if wiped != 0 {
-        return wiped;
-    }
-    let limits = limit_rule(desk);
-    if limits != 0 {
-        return limits;
-    }
-    count_rule(desk)
+// 15. A list past L has length 0 and limit 0.
+fn limit_fault(book: &Book, lengths: &Lengths) -> Option<Refusal> {
+    let over = book
+        .entries
+        .iter()
+        .zip(lengths)
+        .position(|(entry, length)| entry.limit < *length);
+    let lacking = u32::from(lengths[FREE]) < sound::lacks(book, lengths);
+    let list = over.or(lacking.then_some(usize::from(book.lists)))?;
+    Some(Refusal::at(15, list, 0))
 }
 
-// The number of the first broken rule, or 0; its list and position are noted. Rule 9 is what a setup is held to: no list has a slot yet.
-pub(crate) fn first(desk: &mut Desk, size: u64) -> u64 {
-    if !sound::rules_kept(desk, BOOK, FRESH, size) {
-        return 9;
+// 16: a stored count is not how many slots its chain has. An entry past L has length 0, and so has its chain.
+fn count_fault(book: &Book, lengths: &Lengths) -> Option<Refusal> {
+    let wrong = book
+        .entries
+        .iter()
+        .zip(lengths)
+        .position(|(entry, length)| entry.length != *length);
+    let free_wrong = book.free_count != lengths[FREE];
+    let list = wrong.or(free_wrong.then_some(usize::from(book.lists)))?;
+    Some(Refusal::at(16, list, 0))
+}
+
+impl Reading {
+    // The first broken rule. Rule 9 is what a setup is held to: no list has a slot yet.
+    pub(crate) fn first_fault(&mut self, pool: &Pool, size: u16) -> Option<Refusal> {
+        if !sound::rules_kept(&pool.book, &sound::fresh(size), size) {
+            return Some(Refusal::numbered(9));
+        }
+        if pool.link(NULL) != 0 || pool.value(NULL) != 0 {
+            return Some(Refusal::numbered(10));
+        }
+        self.write_chains(pool, size);
+        self.mark_chains(size);
+        let lengths = deque::lengths(&self.chains);
+        self.chain_fault(pool, size)
+            .or_else(|| self.unmet_fault(size))
+            .or_else(|| self.value_fault(pool, size))
+            .or_else(|| limit_fault(&pool.book, &lengths))
+            .or_else(|| count_fault(&pool.book, &lengths))
     }
-    if get(desk, LINKS, 0) | get(desk, VALUES, 0) != 0 {
-        return 10;
-    }
-    cells_rule(desk, size)
 }

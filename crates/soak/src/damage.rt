@@ -1,138 +1,176 @@
 // Damage: cells or words of the book are changed, and the changes are undone later.
-use crate::desk::*;
-use crate::sound;
+use crate::book::{Book, Entry};
+use crate::dice::Dice;
+use crate::model::{Model, State};
+use crate::pool::Pool;
+use crate::soak::Soak;
 
-// Another number: one more, one less, other bits, or a number about the pool's size. A value has 64 bits, a link or a word 16: `all` has
-// a 1 for each. One bit alone may change, any of them.
-fn other(seed: u64, old: u64, size: u64, all: u64) -> u64 {
-    let die = dice(seed, 20, 5);
-    match die {
-        0 => plus(old, 1) & all,
-        1 => minus(old, 1) & all,
-        2 => (old ^ dice(seed, 21, 65536)) & all,
-        3 => (old ^ one_bit(dice(seed, 27, 64))) & all,
-        _ => dice(seed, 22, plus(size, 2)),
+// The words of an entry.
+#[derive(Clone, Copy)]
+enum Field {
+    Head,
+    Tail,
+    Share,
+    Limit,
+    Length,
+}
+
+// A word of the book.
+#[derive(Clone, Copy)]
+enum Word {
+    Lists,
+    FreeHead,
+    FreeCount,
+    Of(usize, Field),
+}
+
+const FIELDS: [Field; 5] = [
+    Field::Head,
+    Field::Tail,
+    Field::Share,
+    Field::Limit,
+    Field::Length,
+];
+
+fn word_in(entry: &mut Entry, field: Field) -> &mut u16 {
+    match field {
+        Field::Head => &mut entry.head,
+        Field::Tail => &mut entry.tail,
+        Field::Share => &mut entry.share,
+        Field::Limit => &mut entry.limit,
+        Field::Length => &mut entry.length,
     }
 }
 
-// The number whose one bit is bit k.
-fn one_bit(k: u64) -> u64 {
-    1 << (k % 64)
-}
-
-// All the bits of a cell of a row.
-fn bits_of(row: u64) -> u64 {
-    match row {
-        VALUES => 18446744073709551615,
-        _ => 65535,
-    }
-}
-
-// A word of the book: the five of an entry, the free head, the free count or how many lists there are.
-fn word(seed: u64) -> u64 {
-    let word = dice(seed, 23, 43);
+fn word_of(book: &mut Book, word: Word) -> Option<&mut u16> {
     match word {
-        41 => FREE_COUNT,
-        _ => (word / 5 << 3) | (word % 5),
+        Word::Lists => Some(&mut book.lists),
+        Word::FreeHead => Some(&mut book.free_head),
+        Word::FreeCount => Some(&mut book.free_count),
+        Word::Of(list, which) => Some(word_in(book.entries.get_mut(list)?, which)),
     }
 }
 
-// A place of a row of the pool or of the book.
-fn place(seed: u64, row: u64, size: u64) -> u64 {
-    match row {
-        BOOK => word(seed),
-        _ => dice(seed, 24, size),
+// Another number: one more, one less, other bits, or a number about the pool's size. One bit alone may change, any of them.
+fn other(dice: Dice, old: u64, size: u16) -> u64 {
+    match dice.roll(20, 5) {
+        0 => old.wrapping_add(1),
+        1 => old.wrapping_sub(1),
+        2 => old ^ dice.wide(21, 65536),
+        3 => old ^ (1 << (dice.wide(27, 64) % 64)),
+        _ => dice.wide(22, u64::from(size) + 2),
     }
 }
 
-// A cell of a row becomes another number.
-fn change_cell(desk: &mut Desk, seed: u64, row: u64, size: u64) {
-    let place = place(seed, row, size);
-    let new = other(seed, get(desk, row, place), size, bits_of(row));
-    set(desk, row, place, new);
+// The same of 16 bits.
+fn other_word(dice: Dice, old: u16, size: u16) -> u16 {
+    (other(dice, u64::from(old), size) & 0xffff) as u16
+}
+
+fn change_link(dice: Dice, pool: &mut Pool, size: u16) {
+    let slot = dice.roll(24, size);
+    let new = other_word(dice, pool.link(slot), size);
+    pool.set_link(slot, new);
+}
+
+fn change_value(dice: Dice, pool: &mut Pool, size: u16) {
+    let slot = dice.roll(24, size);
+    let new = other(dice, pool.value(slot), size);
+    pool.set_value(slot, new);
+}
+
+// The five words of an entry, the free head, the free count or how many lists there are.
+fn any_word(dice: Dice) -> Word {
+    match dice.roll(23, 43) {
+        40 => Word::FreeHead,
+        41 => Word::FreeCount,
+        42 => Word::Lists,
+        k => Word::Of(usize::from(k / 5), FIELDS[usize::from(k % 5)]),
+    }
+}
+
+fn change_word(dice: Dice, book: &mut Book, size: u16) {
+    if let Some(word) = word_of(book, any_word(dice)) {
+        *word = other_word(dice, *word, size);
+    }
 }
 
 // A list's limit becomes smaller than its length, with share 0, or its share as large as its limit. Rule 15 is one of the last, and other
 // damage seldom breaks it alone.
-fn change_entry(desk: &mut Desk, seed: u64) {
-    let list = dice(seed, 29, get(desk, BOOK, LISTS)) & 7;
-    let share = (list << 3) | SHARE;
-    let limit = (list << 3) | LIMIT;
-    let die = dice(seed, 30, plus(get(desk, COUNTS, list), 1));
-    match die {
-        0 => set(desk, BOOK, share, get(desk, BOOK, limit)),
-        _ => {
-            set(desk, BOOK, share, 0);
-            set(desk, BOOK, limit, minus(die, 1));
-        }
+fn change_entry(dice: Dice, model: &mut Model) {
+    let list = usize::from(dice.roll(29, model.pool.book.lists) % 8);
+    let limit = dice.roll(30, model.length(list).saturating_add(1));
+    let entry = &mut model.pool.book.entries[list];
+    if limit == 0 {
+        entry.share = entry.limit;
+    } else {
+        entry.share = 0;
+        entry.limit = limit - 1;
     }
 }
 
 // The length of a list that there is, or one of its ends now and then, or the free count.
-fn count(desk: &Desk, seed: u64) -> u64 {
-    let lists = get(desk, BOOK, LISTS);
-    let list = dice(seed, 31, plus(lists, 1));
-    let die = dice(seed, 35, 8);
-    let word = match die {
-        0 | 1 => die,
-        _ => LENGTH,
+fn count(dice: Dice, lists: u16) -> Word {
+    let list = dice.wide(31, u64::from(lists) + 1);
+    let field = match dice.roll(35, 8) {
+        0 => Field::Head,
+        1 => Field::Tail,
+        _ => Field::Length,
     };
-    if list < lists {
-        return ((list & 7) << 3) | word;
+    if list < u64::from(lists) {
+        return Word::Of((list % 8) as usize, field);
     }
-    FREE_COUNT
+    Word::FreeCount
 }
 
 // A stored count becomes another number. Rule 16 is the last one. By a length of 0 a list lacks its whole share: rule 15 must not go by it.
 // An end may become 0, or the free head: a quick call must see the slots that it would touch for itself.
-fn change_count(desk: &mut Desk, seed: u64, size: u64) {
-    let count = count(desk, seed);
-    let die = dice(seed, 33, 4);
-    let new = match die {
-        0 => 0,
-        _ => other(seed, get(desk, BOOK, count), size, 65535),
-    };
-    set(desk, BOOK, count, new);
+fn change_count(dice: Dice, book: &mut Book, size: u16) {
+    let count = count(dice, book.lists);
+    if let Some(word) = word_of(book, count) {
+        *word = match dice.roll(33, 4) {
+            0 => 0,
+            _ => other_word(dice, *word, size),
+        };
+    }
 }
 
 // A link, a value or a word of the book is changed, or a list's entry, or a stored count.
-fn change(desk: &mut Desk, seed: u64, size: u64) {
-    let way = dice(seed, 25, 7);
-    match way {
-        0 | 1 | 2 => change_cell(desk, seed, plus(LINKS, way), size),
-        3 | 4 => change_entry(desk, seed),
-        _ => change_count(desk, seed, size),
+fn change(dice: Dice, model: &mut Model) {
+    let size = model.size;
+    match dice.roll(25, 7) {
+        0 => change_link(dice, &mut model.pool, size),
+        1 => change_value(dice, &mut model.pool, size),
+        2 => change_word(dice, &mut model.pool.book, size),
+        3 | 4 => change_entry(dice, model),
+        _ => change_count(dice, &mut model.pool.book, size),
     }
 }
 
 // One to three changes, so that several rules may be broken, and the program's own test says whether the pool is sound all the same.
-fn hurt(desk: &mut Desk, seed: u64, size: u64) {
-    let changes = plus(dice(seed, 28, 3), 1);
-    let mut die = seed;
-    sound::copy_pool(desk, LINKS, SAVED, size);
-    for _ in 0..changes {
-        change(desk, die, size);
-        die = stir(die);
+fn hurt(dice: Dice, soak: &mut Soak) {
+    let mut each = dice;
+    soak.saved = soak.model.pool;
+    for _ in 0..=dice.roll(28, 3) {
+        change(each, &mut soak.model);
+        each = each.stirred();
     }
-    let state = sound::faults(desk, size);
-    set(desk, NOTES, STATE, state);
-    add_to(desk, NOTES, HURTS, 1);
-    add_to(desk, NOTES, UNSOUND, state);
+    soak.model.test();
+    soak.tally.damaged = soak.tally.damaged.saturating_add(1);
+    if soak.model.state == State::Damaged {
+        soak.tally.unsound = soak.tally.unsound.saturating_add(1);
+    }
 }
 
-// The pool is as it was before the damage, and the deque takes its sequences again.
-fn undo(desk: &mut Desk, size: u64) {
-    sound::copy_pool(desk, SAVED, LINKS, size);
-    let state = sound::faults(desk, size);
-    set(desk, NOTES, STATE, state);
-}
-
-// Before a call: a sound pool is damaged now and then, and the damage is undone now and then.
-pub(crate) fn perhaps(desk: &mut Desk, seed: u64, state: u64, size: u64) {
-    let way = (state << 3) | dice(seed, 26, 8);
-    match way {
-        0 => hurt(desk, seed, size),
-        8 | 9 | 10 => undo(desk, size),
+// Before a call: a sound pool is damaged now and then, and the damage is undone now and then: the pool is as it was before, and the deques
+// take its sequences again.
+pub(crate) fn perhaps(dice: Dice, soak: &mut Soak) {
+    match (soak.model.state, dice.roll(26, 8)) {
+        (State::Sound, 0) => hurt(dice, soak),
+        (State::Damaged, 0..=2) => {
+            soak.model.pool = soak.saved;
+            soak.model.test();
+        }
         _ => {}
     }
 }

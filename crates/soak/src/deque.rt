@@ -1,142 +1,111 @@
-// The independent deque: the slots of each list in their order, and the free ones, from document 01's words and no code of the library.
-use crate::desk::*;
+// The independent deque: slots in their order, in a ring of 4,096 places, by no code of the library.
+ghost use Rattle.std.specs.Prelude.{◌<◌};
 
-// The ends of a list, as masks of all bits.
-const FRONT: u64 = 18446744073709551615;
+use crate::kinds::End;
 
-// The slot at a place of a list, from its front, or 0 where there is none.
-fn slot_at(desk: &Desk, list: u64, place: u64) -> u64 {
-    if place < get(desk, COUNTS, list) {
-        return get(desk, list, plus(get(desk, FIRSTS, list), place) & 4095);
-    }
-    0
+const PLACES: u16 = 4096;
+
+// The chains of a pool are its lists and, after them, the free slots.
+pub(crate) const CHAINS: usize = 9;
+
+pub(crate) const FREE: usize = 8;
+
+// Where in the ring the first slot stands, and how many there are.
+#[derive(Clone, Copy)]
+pub(crate) struct Deque {
+    slots: [u16; 4096],
+    first: u16,
+    length: u16,
 }
 
-// A slot becomes the first or the last of a list. At the front the first one stands a place lower.
-fn add(desk: &mut Desk, list: u64, end: u64, slot: u64) {
-    let many = get(desk, COUNTS, list);
-    let first = minus(get(desk, FIRSTS, list), end & 1);
-    let place = plus(first, many & (end ^ FRONT)) & 4095;
-    set(desk, list, place, slot);
-    set(desk, FIRSTS, list, first & 4095);
-    set(desk, COUNTS, list, plus(many, 1));
-}
+// How many slots each chain has.
+pub(crate) type Lengths = [u16; CHAINS];
 
-// The first or the last slot leaves a list.
-fn take(desk: &mut Desk, list: u64, end: u64) -> u64 {
-    let last = minus(get(desk, COUNTS, list), 1);
-    let first = get(desk, FIRSTS, list);
-    let slot = slot_at(desk, list, last & (end ^ FRONT));
-    set(desk, FIRSTS, list, plus(first, end & 1) & 4095);
-    set(desk, COUNTS, list, last);
-    slot
-}
-
-// Push: the slot at the free head is taken.
-fn push(desk: &mut Desk, list: u64, end: u64) -> u64 {
-    let slot = take(desk, FREE, FRONT);
-    let value = get(desk, NOTES, PUSHED);
-    add(desk, list, end, slot);
-    set(desk, VALUES, slot, value);
-    0
-}
-
-// Pop: the slot's value becomes 0, and the slot becomes the free head.
-fn pop(desk: &mut Desk, list: u64, end: u64) -> u64 {
-    let slot = take(desk, list, end);
-    let value = get(desk, VALUES, slot);
-    add(desk, FREE, FRONT, slot);
-    set(desk, VALUES, slot, 0);
-    value
-}
-
-// Clear: popping the front until the list is empty.
-fn clear(desk: &mut Desk, list: u64, many: u64) -> u64 {
-    for _ in 0..many {
-        pop(desk, list, FRONT);
-    }
-    0
-}
-
-// Setup: the lists are empty, every slot from 1 on is free, in order, and every value is 0.
-fn set_up(desk: &mut Desk, size: u64) -> u64 {
-    for slot in 0..size {
-        set(desk, FREE, minus(slot, 1), slot);
-    }
-    set(desk, NOTES, SIZE, size);
-    set(desk, NOTES, STATE, 0);
-    fill(desk, VALUES, 0, size);
-    fill(desk, FIRSTS, 0, 9);
-    copy(desk, ASKED, BOOK, NUMBER);
-    copy(desk, FRESH, COUNTS, 9);
-    0
-}
-
-// The value at a place of a list, from its front or, with `end` 0, from its back.
-fn value_at(desk: &Desk, list: u64, end: u64, place: u64) -> u64 {
-    let from_back = minus(minus(get(desk, COUNTS, list), 1), place);
-    let slot = slot_at(desk, list, (place & end) | (from_back & (end ^ FRONT)));
-    get(desk, VALUES, slot)
-}
-
-// What a read must leave in the buffer.
-fn read(desk: &mut Desk, list: u64, end: u64, many: u64) -> u64 {
-    let at = get(desk, NOTES, AT);
-    for k in 0..many {
-        let value = value_at(desk, list, end, k);
-        set(desk, BUFFER, plus(at, k), value);
-    }
-    many
-}
-
-// The call that is asked for is done on the deque, and drawn. Answers the value that it must return, 0 where it returns none. Of the pushes
-// and the pops the even kinds are at the front, of the reads the odd ones.
-pub(crate) fn done(desk: &mut Desk, kind: u64) -> u64 {
-    let list = get(desk, NOTES, LIST);
-    let many = get(desk, COUNTS, list);
-    let end = minus(kind & 1, 1);
-    let value = match kind {
-        0 => set_up(desk, get(desk, NOTES, LINKS_LENT)),
-        1 => 0,
-        2 => many,
-        3 | 4 => push(desk, list, end),
-        5 | 6 => pop(desk, list, end),
-        7 | 8 => read(desk, list, end ^ FRONT, many),
-        _ => clear(desk, list, many),
+impl Deque {
+    pub(crate) const EMPTY: Deque = Deque {
+        slots: [0; 4096],
+        first: 0,
+        length: 0,
     };
-    draw(desk);
-    value
-}
 
-// A link: the slot before XOR the slot after. A free slot has no slot before.
-fn link_at(desk: &Desk, list: u64, place: u64) -> u64 {
-    let after = slot_at(desk, list, plus(place, 1));
-    match list {
-        FREE => after,
-        _ => slot_at(desk, list, minus(place, 1)) ^ after,
+    pub(crate) fn length(&self) -> u16 {
+        self.length
+    }
+
+    pub(crate) fn clear(&mut self) {
+        self.first = 0;
+        self.length = 0;
+    }
+
+    // Where in the ring a place stands.
+    fn index(&self, place: u16) -> usize
+        ensures { result < 4096 }
+    {
+        usize::from(self.first.wrapping_add(place) % PLACES)
+    }
+
+    // The slot at a place, from the front.
+    pub(crate) fn at(&self, place: u16) -> Option<u16> {
+        if place < self.length {
+            return Some(self.slots[self.index(place)]);
+        }
+        None
+    }
+
+    // The slot at a place, from an end.
+    pub(crate) fn from_end(&self, end: End, place: u16) -> Option<u16> {
+        match end {
+            End::Front => self.at(place),
+            End::Back => self.at(self.length.checked_sub(1)?.checked_sub(place)?),
+        }
+    }
+
+    pub(crate) fn push_front(&mut self, slot: u16) {
+        self.first = self.first.wrapping_sub(1) % PLACES;
+        let at = self.index(0);
+        self.slots[at] = slot;
+        self.length = self.length.wrapping_add(1);
+    }
+
+    pub(crate) fn push_back(&mut self, slot: u16) {
+        let at = self.index(self.length);
+        self.slots[at] = slot;
+        self.length = self.length.wrapping_add(1);
+    }
+
+    pub(crate) fn pop_front(&mut self) -> Option<u16> {
+        let slot = self.at(0)?;
+        self.first = self.first.wrapping_add(1) % PLACES;
+        self.length = self.length.wrapping_sub(1);
+        Some(slot)
+    }
+
+    pub(crate) fn pop_back(&mut self) -> Option<u16> {
+        let last = self.length.checked_sub(1)?;
+        self.length = last;
+        Some(self.slots[self.index(last)])
+    }
+
+    pub(crate) fn push(&mut self, end: End, slot: u16) {
+        match end {
+            End::Front => self.push_front(slot),
+            End::Back => self.push_back(slot),
+        }
+    }
+
+    pub(crate) fn pop(&mut self, end: End) -> Option<u16> {
+        match end {
+            End::Front => self.pop_front(),
+            End::Back => self.pop_back(),
+        }
     }
 }
 
-// The links of a list's slots, and its ends and its length in the book. The free slots have no tail there.
-fn draw_list(desk: &mut Desk, list: u64) {
-    let many = get(desk, COUNTS, list);
-    let head = slot_at(desk, list, 0);
-    let tail = slot_at(desk, list, minus(many, 1));
-    for k in 0..many {
-        let slot = slot_at(desk, list, k);
-        let link = link_at(desk, list, k);
-        set(desk, LINKS, slot, link);
-    }
-    set(desk, BOOK, list << 3, head);
-    set(desk, BOOK, (list << 3) | 1, tail);
-    set(desk, BOOK, (list << 3) | LENGTH, many);
+pub(crate) fn lengths(chains: &[Deque; CHAINS]) -> Lengths {
+    chains.each_ref().map(|chain| chain.length)
 }
 
-// The links and the book as the deque says that they must be, and the null slot.
-pub(crate) fn draw(desk: &mut Desk) {
-    for list in 0..9 {
-        draw_list(desk, list);
-    }
-    set(desk, LINKS, 0, 0);
-    set(desk, BOOK, FREE_HEAD + 1, 0);
+// The slot before, for the link after it. A free slot's link does not tell of it.
+pub(crate) fn before(chain: usize, slot: u16) -> u16 {
+    if chain == FREE { 0 } else { slot }
 }

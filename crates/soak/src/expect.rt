@@ -1,164 +1,124 @@
 // What a call must give and leave, in the documents' words, and whether it did.
-use crate::desk::*;
-use crate::{broken, deque, out, quick, sound};
-use std::io;
+use crate::book::{Answer, Book, Entry, Refusal};
+use crate::broken::Reading;
+use crate::deque::{self, FREE};
+use crate::kinds::{Call, Kind};
+use crate::model::{Model, State};
+use crate::pool::CELLS;
+use crate::{quick, sound};
+
+// What a call must do: be refused, or be done, which the deques show, or the cells where the deques do not tell of them.
+#[derive(Clone, Copy, PartialEq, Eq)]
+pub(crate) enum Must {
+    Refuse(Refusal),
+    Do,
+    DoOnCells,
+}
 
 // 6 or 7, for a list that holds so many, where so many slots are free and the lists lack so many. Above its limit neither is given.
-pub(crate) fn push_number(desk: &Desk, list: u64, many: u64, free: u64, lacks: u64) -> u64 {
-    let limit = get(desk, BOOK, (list << 3) | LIMIT);
-    if many == limit {
-        return 6;
+pub(crate) fn push_number(entry: &Entry, length: u16, free: u16, lacks: u32) -> Option<u16> {
+    if length == entry.limit {
+        return Some(6);
     }
-    if limit < many {
-        return 0;
+    if length < entry.limit && entry.share <= length && u32::from(free) <= lacks {
+        return Some(7);
     }
-    if get(desk, BOOK, (list << 3) | SHARE) <= many {
-        if free <= lacks {
-            return 7;
-        }
-    }
-    0
+    None
 }
 
 // 5.
-pub(crate) fn pop_number(many: u64) -> u64 {
-    match many {
-        0 => 5,
-        _ => 0,
-    }
+pub(crate) fn pop_number(length: u16) -> Option<u16> {
+    (length == 0).then_some(5)
 }
 
 // 8.
-fn read_number(desk: &Desk, many: u64) -> u64 {
-    let at = get(desk, NOTES, AT);
-    let room = get(desk, NOTES, ROOM);
-    if at <= room {
-        if many <= room - at {
-            return 0;
-        }
+fn read_number(call: &Call, length: u16) -> Option<u16> {
+    match call.room.checked_sub(call.at) {
+        Some(left) if usize::from(length) <= left => None,
+        _ => Some(8),
     }
-    8
 }
 
 // 4 to 8, on a sound pool.
-fn list_number(desk: &Desk, kind: u64) -> u64 {
-    let list = get(desk, NOTES, LIST);
-    let many = get(desk, COUNTS, list);
-    let free = get(desk, COUNTS, FREE);
-    if get(desk, BOOK, LISTS) <= list {
-        return 4;
+fn list_number(model: &Model, call: &Call) -> Option<u16> {
+    let book = &model.pool.book;
+    if book.lists <= call.list {
+        return Some(4);
     }
-    match kind {
-        3 | 4 => push_number(desk, list, many, free, sound::lacks(desk, BOOK, COUNTS)),
-        5 | 6 => pop_number(many),
-        7 | 8 => read_number(desk, many),
-        _ => 0,
+    let lengths = deque::lengths(&model.chains);
+    let list = usize::from(call.list);
+    let length = model.length(list);
+    match call.kind {
+        Kind::Push(_) => push_number(
+            book.entries.get(list)?,
+            length,
+            lengths[FREE],
+            sound::lacks(book, &lengths),
+        ),
+        Kind::Pop(_) => pop_number(length),
+        Kind::Read(_) => read_number(call, length),
+        _ => None,
     }
 }
 
-// 2.
-fn setup_number(desk: &Desk, size: u64) -> u64 {
-    if sound::rules_kept(desk, ASKED, FRESH, size) {
-        return 0;
-    }
-    2
+fn refused_or(refusal: Option<Refusal>, done: Must) -> Must {
+    refusal.map_or(done, Must::Refuse)
 }
 
-// 9 to 16 by the program's reading of the pool, or 0. A damaged pool, and one of another size than it was set up for, must break a rule, and
-// no other may: else 3, which no call gives.
-fn rule_number(desk: &mut Desk, size: u64) -> u64 {
-    let rule = broken::first(desk, size);
-    let wrong = (size ^ get(desk, NOTES, SIZE)) | get(desk, NOTES, STATE);
-    match wrong {
-        0 => match rule {
-            0 => 0,
-            _ => 3,
+// 9 to 16 by the program's reading of the pool, and then 4 to 8. A damaged pool, and one of another size than it was set up for, must break
+// a rule, and no other may: else 3, which no call gives. A quick call that meets a broken rule goes by its own ones.
+fn ruled(model: &Model, reading: &mut Reading, call: &Call) -> Must {
+    let faulty = call.links != model.size || model.state != State::Sound;
+    match reading.first_fault(&model.pool, call.links) {
+        Some(fault) if !faulty => Must::Refuse(Refusal { number: 3, ..fault }),
+        Some(_) if call.quick => refused_or(
+            quick::refusal(&model.pool, call, call.links),
+            Must::DoOnCells,
+        ),
+        Some(fault) => Must::Refuse(fault),
+        None if faulty => Must::Refuse(Refusal::numbered(3)),
+        None if call.kind == Kind::Check => Must::Do,
+        None => refused_or(list_number(model, call).map(Refusal::numbered), Must::Do),
+    }
+}
+
+// The tests run in this order: 1, then of a setup 2, of the others 9 to 16 and 4 to 8.
+fn decide(model: &Model, reading: &mut Reading, call: &Call) -> Must {
+    if call.links != call.values || !(2..=4096).contains(&call.links) {
+        return Must::Refuse(Refusal::numbered(1));
+    }
+    if call.kind != Kind::Setup {
+        return ruled(model, reading, call);
+    }
+    if sound::rules_kept(&call.asked, &sound::fresh(call.links), call.links) {
+        return Must::Do;
+    }
+    Must::Refuse(Refusal::numbered(2))
+}
+
+// What the call must answer, and what it must leave in the model and in the buffer. A refused setup answers with the all-zero book.
+pub(crate) fn expect(
+    model: &mut Model,
+    reading: &mut Reading,
+    call: &Call,
+    buffer: &mut [u64; CELLS],
+) -> (Must, Answer) {
+    let must = decide(model, reading, call);
+    let (refusal, value) = match must {
+        Must::Refuse(refusal) => (refusal, 0),
+        Must::Do => (Refusal::DONE, model.done(call, buffer)),
+        Must::DoOnCells => (Refusal::DONE, quick::done(model, call).unwrap_or(0)),
+    };
+    let book = match must {
+        Must::Refuse(_) if call.kind == Kind::Setup => Book::ZERO,
+        _ => model.pool.book,
+    };
+    (
+        must,
+        Answer {
+            refusal,
+            value,
+            book,
         },
-        _ => match rule {
-            0 => 3,
-            _ => rule,
-        },
-    }
-}
-
-// 9 to 16, and then 4 to 8. A quick call that meets a broken rule goes by its own ones.
-fn ruled_number(desk: &mut Desk, kind: u64, size: u64) -> u64 {
-    let rule = rule_number(desk, size);
-    match rule {
-        0 => match kind {
-            1 => 0,
-            _ => list_number(desk, kind),
-        },
-        3 => 3,
-        _ => match get(desk, NOTES, QUICK) {
-            0 => rule,
-            _ => quick::number(desk, kind, size),
-        },
-    }
-}
-
-// The number that the call must give. The tests run in this order: 1, then of a setup 2, of the others 9 to 16 and
-// 4 to 8.
-fn number(desk: &mut Desk, kind: u64) -> u64 {
-    let size = get(desk, NOTES, LINKS_LENT);
-    if size != get(desk, NOTES, VALUES_LENT) {
-        return 1;
-    }
-    if 4094 < minus(size, 2) {
-        return 1;
-    }
-    match kind {
-        0 => setup_number(desk, size),
-        _ => ruled_number(desk, kind, size),
-    }
-}
-
-// The two rows are compared.
-pub(crate) fn compare(rt: &impl Print, desk: &mut Desk, got: u64, wanted: u64) -> io::Result<()> {
-    let span = get(desk, NOTES, SPAN);
-    let place = first_difference(desk, got, wanted, span);
-    if place < span {
-        out::difference(rt, desk, got, wanted, place)?;
-        add_to(desk, NOTES, DIFFERENCES, 1);
-    }
-    Ok(())
-}
-
-// The number that the call must give, and where that is 0 the call done on the deque, or on the cells where the deque does not tell of them.
-// A refused setup answers with the all-zero book.
-fn expect(desk: &mut Desk, kind: u64) {
-    set_four(desk, NOTES, FAULT_LIST, 0, 0, 0, 0);
-    let number = number(desk, kind);
-    let list = get(desk, NOTES, FAULT_LIST);
-    let position = get(desk, NOTES, FAULT_POSITION);
-    copy(desk, BOOK, WANTED, NUMBER);
-    set_four(desk, WANTED, NUMBER, number, 0, list, position);
-    match number {
-        0 => {
-            let value = match get(desk, NOTES, BY_CELLS) {
-                0 => deque::done(desk, kind),
-                _ => quick::done(desk, kind),
-            };
-            copy(desk, BOOK, WANTED, NUMBER);
-            set(desk, WANTED, VALUE, value);
-        }
-        _ => match kind {
-            0 => fill(desk, WANTED, 0, NUMBER),
-            _ => {}
-        },
-    }
-}
-
-// What the call left and answered is held to what it must.
-pub(crate) fn judge(rt: &impl Print, desk: &mut Desk) -> io::Result<()> {
-    let kind = get(desk, NOTES, KIND);
-    let row = plus(kind, get(desk, NOTES, QUICK));
-    let given = get(desk, GOT, NUMBER);
-    expect(desk, kind);
-    add_to(desk, TABLE, (row << 5) | given, 1);
-    add_to(desk, TABLE, (ALL << 5) | given, 1);
-    compare(rt, desk, GOT, WANTED)?;
-    compare(rt, desk, GOT_LINKS, LINKS)?;
-    compare(rt, desk, GOT_VALUES, VALUES)?;
-    compare(rt, desk, GOT_BUFFER, BUFFER)
+    )
 }

@@ -1,158 +1,152 @@
 // 02 d)'s quick calls on a pool that is not sound: the program's own reading of the number, and the step on the cells, with the stored counts
 // taken as they are. On a sound pool the deque tells both, as of the checked calls.
-use crate::desk::*;
-use crate::{expect, sound};
+use crate::book::{Book, Entry, Refusal};
+use crate::expect;
+use crate::kinds::{Call, End, Kind};
+use crate::model::Model;
+use crate::pool::{NULL, Pool};
 
-// No sum of lacks: a stored count is above N-1.
-const ABOVE: u64 = 18446744073709551615;
-
-// What the lists that there are lack of their shares by their stored lengths; ABOVE where one of these, or the free count, is above N-1.
-fn stored_lacks(desk: &Desk, lists: u64, size: u64) -> u64 {
-    let mut sum: u64 = 0;
-    if size <= get(desk, BOOK, FREE_COUNT) {
-        return ABOVE;
-    }
-    for list in 0..lists {
-        let many = get(desk, BOOK, (list << 3) | LENGTH);
-        if size <= many {
-            return ABOVE;
-        }
-        let share = get(desk, BOOK, (list << 3) | SHARE);
-        sum = plus(sum, sound::lack(share, many));
-    }
-    sum
+// What the lists that there are lack of their shares by their stored lengths; none where one of these, or the free count, is above N-1.
+fn stored_lacks(book: &Book, size: u16) -> Option<u32> {
+    let lists = &book.entries[..usize::from(book.lists).min(8)];
+    let above = size <= book.free_count || lists.iter().any(|entry| size <= entry.length);
+    // A fold, as in `sound::lacks`.
+    let lacks = lists
+        .iter()
+        .map(|entry| entry.lack(entry.length))
+        .fold(0, u32::wrapping_add);
+    (!above).then_some(lacks)
 }
 
-// 17 where one of so many listed slots is not from 1 to N-1, or there twice, or 0.
-fn slots_number(desk: &mut Desk, many: u64, size: u64) -> u64 {
-    fill(desk, MARKS, 0, size);
-    for k in 0..many {
-        let slot = get(desk, NOTES, plus(TOUCHED, k));
-        if minus(size, 1) <= minus(slot, 1) {
-            return 17;
-        }
-        if get(desk, MARKS, slot) != 0 {
-            return 17;
-        }
-        set(desk, MARKS, slot, 1);
+// The slot at an end of a list.
+fn end_slot(entry: &Entry, end: End) -> u16 {
+    match end {
+        End::Front => entry.head,
+        End::Back => entry.tail,
     }
-    0
 }
 
-// The slots whose cells the call would read or write are listed. Of a push the free head, and the slot at its end unless the tail is 0; of a
-// pop the slot at its end, and the one beside it unless the link is 0. The odd kinds are at the back. Answers 17 or 0.
-fn touched_number(desk: &mut Desk, kind: u64, from: u64, size: u64) -> u64 {
-    let end = get(desk, BOOK, from | (kind & 1));
-    let beside = get(desk, LINKS, end);
-    let free = get(desk, BOOK, FREE_HEAD);
-    let other = match kind {
-        3 | 4 => {
-            set_four(desk, NOTES, TOUCHED, free, end, 0, 0);
-            get(desk, BOOK, from | 1)
+// Are the slots whose cells the call would read or write from 1 to N-1, and two? Of a push these are the free head, and the slot at its
+// end unless the tail is 0; of a pop the slot at its end, and the one beside it unless the link is 0.
+fn may_touch(pool: &Pool, entry: &Entry, kind: Kind, size: u16) -> bool {
+    let (first, second, alone) = match kind {
+        Kind::Push(end) => (
+            pool.book.free_head,
+            end_slot(entry, end),
+            entry.tail == NULL,
+        ),
+        Kind::Pop(end) => {
+            let slot = end_slot(entry, end);
+            let beside = pool.link(slot);
+            (slot, beside, beside == NULL)
         }
-        _ => {
-            set_four(desk, NOTES, TOUCHED, end, beside, 0, 0);
-            beside
-        }
+        _ => return true,
     };
-    match other {
-        0 => slots_number(desk, 1, size),
-        _ => slots_number(desk, 2, size),
-    }
+    let slots = 1..size;
+    slots.contains(&first) && (alone || slots.contains(&second) && first != second)
 }
 
-// 5 to 7 by the stored counts, and 17 for the rest, or 0. The list's length and the free count must stay from 0 to N-1: below 0 a count is
+// 5 to 7 by the stored counts, and 17 for the rest. The list's length and the free count must stay from 0 to N-1: below 0 a count is
 // above all others.
-fn list_number(desk: &mut Desk, kind: u64, list: u64, lacks: u64, size: u64) -> u64 {
-    let stored = get(desk, BOOK, (list << 3) | LENGTH);
-    let free = get(desk, BOOK, FREE_COUNT);
-    let number = match kind {
-        3 | 4 => expect::push_number(desk, list, stored, free, lacks),
-        _ => expect::pop_number(stored),
+fn list_number(pool: &Pool, entry: &Entry, kind: Kind, lacks: u32, size: u16) -> Option<u16> {
+    let free = pool.book.free_count;
+    let (number, length, left) = match kind {
+        Kind::Push(_) => (
+            expect::push_number(entry, entry.length, free, lacks),
+            entry.length.wrapping_add(1),
+            free.wrapping_sub(1),
+        ),
+        _ => (
+            expect::pop_number(entry.length),
+            entry.length.wrapping_sub(1),
+            free.wrapping_add(1),
+        ),
     };
-    if number != 0 {
-        return number;
+    let stays = length < size && left < size && may_touch(pool, entry, kind, size);
+    match number {
+        None if !stays => Some(17),
+        _ => number,
     }
-    let more = match kind {
-        3 | 4 => 1,
-        _ => minus(0, 1),
-    };
-    if size <= plus(stored, more) {
-        return 17;
-    }
-    if size <= minus(free, more) {
-        return 17;
-    }
-    touched_number(desk, kind, list << 3, size)
 }
 
-// The number that a quick call must give, once 1 is asked. It has no place, so the broken rule's is dropped, and it goes by the cells.
-pub(crate) fn number(desk: &mut Desk, kind: u64, size: u64) -> u64 {
-    let list = get(desk, NOTES, LIST);
-    let lists = get(desk, BOOK, LISTS);
-    set_four(desk, NOTES, FAULT_LIST, 0, 0, 1, 0);
-    if 7 < minus(lists, 1) {
-        return 17;
+// The number that a quick call must give, once 1 is asked. It has no place.
+fn number(pool: &Pool, call: &Call, size: u16) -> Option<u16> {
+    let book = &pool.book;
+    if !(1..=8).contains(&book.lists) {
+        return Some(17);
     }
-    if lists <= list {
-        return 4;
+    if book.lists <= call.list {
+        return Some(4);
     }
-    let lacks = stored_lacks(desk, lists, size);
-    if lacks == ABOVE {
-        return 17;
-    }
-    list_number(desk, kind, list, lacks, size)
+    let Some(lacks) = stored_lacks(book, size) else {
+        return Some(17);
+    };
+    let entry = book.entries.get(usize::from(call.list))?;
+    list_number(pool, entry, call.kind, lacks, size)
+}
+
+pub(crate) fn refusal(pool: &Pool, call: &Call, size: u16) -> Option<Refusal> {
+    number(pool, call, size).map(Refusal::numbered)
 }
 
 // The free head becomes an end of the list, or both where the tail is 0.
-fn push(desk: &mut Desk, from: u64, end: u64) -> u64 {
-    let slot = get(desk, BOOK, FREE_HEAD);
-    let near = get(desk, BOOK, from | end);
-    let tail = get(desk, BOOK, from | 1);
-    set(desk, BOOK, FREE_HEAD, get(desk, LINKS, slot));
-    set(desk, VALUES, slot, get(desk, NOTES, PUSHED));
-    set(desk, BOOK, from | end, slot);
-    match tail {
-        0 => {
-            set(desk, LINKS, slot, 0);
-            set(desk, BOOK, from | (end ^ 1), slot);
-        }
-        _ => {
-            set(desk, LINKS, slot, near);
-            set(desk, LINKS, near, get(desk, LINKS, near) ^ slot);
-        }
+fn push(pool: &mut Pool, entry: &mut Entry, end: End, value: u64) {
+    let slot = pool.book.free_head;
+    let near = end_slot(entry, end);
+    pool.book.free_head = pool.link(slot);
+    pool.book.free_count = pool.book.free_count.wrapping_sub(1);
+    pool.set_value(slot, value);
+    let alone = entry.tail == NULL;
+    if alone || end == End::Front {
+        entry.head = slot;
     }
-    add_to(desk, BOOK, from | LENGTH, 1);
-    add_to(desk, BOOK, FREE_COUNT, minus(0, 1));
-    0
+    if alone || end == End::Back {
+        entry.tail = slot;
+    }
+    entry.length = entry.length.wrapping_add(1);
+    if alone {
+        pool.set_link(slot, 0);
+    } else {
+        pool.set_link(slot, near);
+        pool.set_link(near, pool.link(near) ^ slot);
+    }
 }
 
 // The slot at an end becomes the free head, and the one beside it the end; where there is none, the list has no ends.
-fn pop(desk: &mut Desk, from: u64, end: u64) -> u64 {
-    let slot = get(desk, BOOK, from | end);
-    let beside = get(desk, LINKS, slot);
-    let value = get(desk, VALUES, slot);
-    set(desk, LINKS, slot, get(desk, BOOK, FREE_HEAD));
-    set(desk, VALUES, slot, 0);
-    set(desk, BOOK, FREE_HEAD, slot);
-    set(desk, BOOK, from | end, beside);
-    match beside {
-        0 => set(desk, BOOK, from | (end ^ 1), 0),
-        _ => set(desk, LINKS, beside, get(desk, LINKS, beside) ^ slot),
+fn pop(pool: &mut Pool, entry: &mut Entry, end: End) -> u64 {
+    let slot = end_slot(entry, end);
+    let beside = pool.link(slot);
+    let value = pool.value(slot);
+    pool.set_link(slot, pool.book.free_head);
+    pool.set_value(slot, 0);
+    pool.book.free_head = slot;
+    pool.book.free_count = pool.book.free_count.wrapping_add(1);
+    if beside == NULL || end == End::Front {
+        entry.head = beside;
     }
-    add_to(desk, BOOK, from | LENGTH, minus(0, 1));
-    add_to(desk, BOOK, FREE_COUNT, 1);
+    if beside == NULL || end == End::Back {
+        entry.tail = beside;
+    }
+    entry.length = entry.length.wrapping_sub(1);
+    if beside != NULL {
+        pool.set_link(beside, pool.link(beside) ^ slot);
+    }
     value
 }
 
 // The call done on the cells. It may have made the pool sound, as a push over a free slot's value does; the deque takes its sequences then.
-pub(crate) fn done(desk: &mut Desk, kind: u64) -> u64 {
-    let from = get(desk, NOTES, LIST) << 3;
-    let value = match kind {
-        3 | 4 => push(desk, from, kind & 1),
-        _ => pop(desk, from, kind & 1),
+pub(crate) fn done(model: &mut Model, call: &Call) -> Option<u64> {
+    // The entry is a copy and is put back, since it lies in the pool, which is changed beside it.
+    let mut entry = *model.pool.book.entries.get(usize::from(call.list))?;
+    let value = match call.kind {
+        Kind::Push(end) => {
+            push(&mut model.pool, &mut entry, end, call.value);
+            0
+        }
+        Kind::Pop(end) => pop(&mut model.pool, &mut entry, end),
+        _ => 0,
     };
-    let state = sound::faults(desk, get(desk, NOTES, SIZE));
-    set(desk, NOTES, STATE, state);
-    value
+    *model.pool.book.entries.get_mut(usize::from(call.list))? = entry;
+    model.test();
+    Some(value)
 }
