@@ -18,11 +18,9 @@ fn all(out: &mut [u8]) -> usize
     requires { 1800 ≤ length out.old }
     ensures { Written all_notices out.old 0 result out.new }
 {
-    let mut at: usize = 0;
-    let mut number: u16 = 0;
-    while number < 19 {
+    let mut at = 0;
+    for number in 0..19 {
         at += notice(out, at, number);
-        number += 1;
     }
     at + notice(out, at, 65535)
 }
@@ -32,7 +30,7 @@ fn notice(out: &mut [u8], at: usize, number: u16) -> usize
     requires { at + 87 ≤ length out.old }
     ensures { Written (notice_of number) out.old at result out.new }
 {
-    let first = digits::write(out, at, number as u64);
+    let first = digits::write(out, at, u64::from(number));
     let both = first + texts::put(out, at + first, b": ");
     let most = both + texts::write(out, at + both, number);
     most + texts::put(out, at + most, b"\n")

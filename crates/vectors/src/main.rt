@@ -2,62 +2,21 @@
 // was read line by line beside document 01, and beside document 02 for the counts and where a rule is broken.
 #![tactic(auto)]
 
+ghost use Rattle.std.specs.Prelude.{◌≤◌};
+
 mod broken;
 mod calls;
 mod out;
+mod pool;
 mod steps;
 
 use books::{Book, Entry, Free};
+use calls::Change;
+use pool::Pool;
 use std::io;
-
-// The titles of the pools, with blanks up to sixteen letters.
-const P1: [u8; 16] = *b"P1              ";
-
-const P2: [u8; 16] = *b"P2              ";
-
-const P3: [u8; 16] = *b"P3              ";
-
-const P4: [u8; 16] = *b"P4              ";
-
-const P5: [u8; 16] = *b"P5              ";
-
-const P6: [u8; 16] = *b"P6              ";
-
-const P7: [u8; 16] = *b"P7              ";
-
-const P7_THEN_A_CLEAR: [u8; 16] = *b"P7, then a clear";
-
-const P7_BY_QUICK_CALLS: [u8; 16] = *b"P7, quick calls ";
-
-const P8: [u8; 16] = *b"P8              ";
-
-const P9: [u8; 16] = *b"P9              ";
-
-const P9_COUNTS_3_AND_0: [u8; 16] = *b"P9, counts 3, 0 ";
-
-const P9_COUNTS_2_AND_1: [u8; 16] = *b"P9, counts 2, 1 ";
-
-const P9_COUNTS_65535: [u8; 16] = *b"P9, counts 65535";
-
-const P9_QUICK_3_AND_0: [u8; 16] = *b"P9, 3, 0, quick ";
-
-const P9_QUICK_65535: [u8; 16] = *b"P9, 65535, quick";
-
-const P10: [u8; 16] = *b"P10             ";
-
-const ONE_SLOT: [u8; 16] = *b"1 slot          ";
-
-const TWO_SLOTS: [u8; 16] = *b"2 slots         ";
-
-const MOST_SLOTS: [u8; 16] = *b"4,096 slots     ";
-
-const TOO_MANY_SLOTS: [u8; 16] = *b"4,097 slots     ";
-
-const SHARES_2_AND_3: [u8; 16] = *b"shares 2 and 3  ";
-
-const SHARES_3_AND_3: [u8; 16] = *b"shares 3 and 3  ";
-
-const LIMIT_0: [u8; 16] = *b"limit 0         ";
+use steps::{
+    LIMIT_0, ONE_LIST, P9, P10, QUICK_P9, QUICK_TO_P7, SHARES_2_AND_3, SHARES_3_AND_3, TO_P7,
+};
 
 // A book of one list with share 0.
 fn one_list(entry: Entry, free: Free) -> Book {
@@ -71,8 +30,6 @@ fn one_list(entry: Entry, free: Free) -> Book {
 
 // 01 gives the values of P8's slots 0, 2 and 5. The list's are 10, 20 and 30.
 fn p8(rt: &impl Print) -> io::Result<()> {
-    let mut links = [0u16, 7, 5, 1, 1, 0];
-    let mut values = [0u64, 20, 0, 10, 30, 0];
     let entry = Entry {
         head: 3,
         tail: 4,
@@ -80,22 +37,17 @@ fn p8(rt: &impl Print) -> io::Result<()> {
         limit: 5,
         length: 3,
     };
-    out::title(rt, P8)?;
-    let book = one_list(entry, Free { head: 2, count: 2 });
-    steps::run(rt, &mut links, &mut values, book, 0, 0)
+    let pool = Pool {
+        title: "P8",
+        links: &mut [0, 7, 5, 1, 1, 0],
+        values: &mut [0, 20, 0, 10, 30, 0],
+        book: one_list(entry, Free { head: 2, count: 2 }),
+    };
+    pool.run(rt, &[])
 }
 
 // 01 says nothing of P9's counts, so it is tried with several. Its chain is broken whatever they are.
-fn p9(
-    rt: &impl Print,
-    title: [u8; 16],
-    length: u16,
-    count: u16,
-    from: usize,
-    to: usize,
-) -> io::Result<()> {
-    let mut links = [0u16, 2, 0, 0];
-    let mut values = [0u64; 4];
+fn p9(rt: &impl Print, title: &str, length: u16, count: u16, steps: &[Change]) -> io::Result<()> {
     let entry = Entry {
         head: 1,
         tail: 1,
@@ -103,62 +55,64 @@ fn p9(
         limit: 3,
         length,
     };
-    out::title(rt, title)?;
-    let book = one_list(entry, Free { head: 0, count });
-    steps::run(rt, &mut links, &mut values, book, from, to)
+    let pool = Pool {
+        title,
+        links: &mut [0, 2, 0, 0],
+        values: &mut [0; 4],
+        book: one_list(entry, Free { head: 0, count }),
+    };
+    pool.run(rt, steps)
 }
 
-// A pool of so many slots, of which every cell is 9 before, and on it the steps of `STEPS` from `from` up to `to`.
-fn nines(rt: &impl Print, title: [u8; 16], size: usize, from: usize, to: usize) -> io::Result<()> {
-    let mut links = [9u16; 4097];
-    let mut values = [9u64; 4097];
-    out::title(rt, title)?;
-    if size <= 4097 {
-        steps::run(
-            rt,
-            &mut links[0..size],
-            &mut values[0..size],
-            Book::zero(),
-            from,
-            to,
-        )?;
-    }
-    Ok(())
+// A pool of so many slots, of which every cell is 9 before. The largest tried has one slot more than a pool may have.
+fn nines<const SIZE: usize>(rt: &impl Print, title: &str, steps: &[Change]) -> io::Result<()>
+    requires { SIZE ≤ 4097 }
+{
+    let pool = Pool {
+        title,
+        links: &mut [9; SIZE],
+        values: &mut [9; SIZE],
+        book: Book::zero(),
+    };
+    pool.run(rt, steps)
 }
 
 fn intro(rt: &impl Print) -> io::Result<()> {
-    out::say(
-        rt,
-        b"A call has its list and its value or place behind it; a setup its lists, and its shares and limits.\nA book is how many lists it has, the free head and the free count, then head, tail, share, limit and length of each.\nA number that names a broken rule has the rule's list and position behind it.\n\n",
-    )
+    rt.println(
+        "A call has its list and its value or place behind it; a setup its lists, and its shares and limits.",
+    )?;
+    rt.println(
+        "A book is how many lists it has, the free head and the free count, then head, tail, share, limit and length of each.",
+    )?;
+    rt.println("A number that names a broken rule has the rule's list and position behind it.\n")
 }
 
 fn main(rt: HostRuntime) -> io::Result<()> {
     intro(&rt)?;
     // P2 to P7 go on from the pool before, so each begins at the first step.
-    nines(&rt, P1, 6, 0, 1)?;
-    nines(&rt, P2, 6, 0, 4)?;
-    nines(&rt, P3, 6, 0, 5)?;
-    nines(&rt, P4, 6, 0, 6)?;
-    nines(&rt, P5, 6, 0, 8)?;
-    nines(&rt, P6, 6, 0, 9)?;
-    nines(&rt, P7, 6, 0, 10)?;
-    nines(&rt, P7_THEN_A_CLEAR, 6, 0, 11)?;
+    nines::<6>(&rt, "P1", &TO_P7[..1])?;
+    nines::<6>(&rt, "P2", &TO_P7[..4])?;
+    nines::<6>(&rt, "P3", &TO_P7[..5])?;
+    nines::<6>(&rt, "P4", &TO_P7[..6])?;
+    nines::<6>(&rt, "P5", &TO_P7[..8])?;
+    nines::<6>(&rt, "P6", &TO_P7[..9])?;
+    nines::<6>(&rt, "P7", &TO_P7[..10])?;
+    nines::<6>(&rt, "P7, then a clear", &TO_P7)?;
     p8(&rt)?;
-    p9(&rt, P9, 0, 0, 11, 16)?;
-    p9(&rt, P9_COUNTS_3_AND_0, 3, 0, 16, 16)?;
-    p9(&rt, P9_COUNTS_2_AND_1, 2, 1, 16, 16)?;
-    p9(&rt, P9_COUNTS_65535, 65535, 65535, 16, 16)?;
-    nines(&rt, P10, 6, 16, 18)?;
-    nines(&rt, ONE_SLOT, 1, 18, 19)?;
-    nines(&rt, TWO_SLOTS, 2, 18, 19)?;
-    nines(&rt, MOST_SLOTS, 4096, 18, 19)?;
-    nines(&rt, TOO_MANY_SLOTS, 4097, 18, 19)?;
-    nines(&rt, SHARES_2_AND_3, 6, 19, 20)?;
-    nines(&rt, SHARES_3_AND_3, 6, 20, 21)?;
-    nines(&rt, LIMIT_0, 6, 21, 24)?;
-    nines(&rt, P7_BY_QUICK_CALLS, 6, 24, 34)?;
-    p9(&rt, P9_QUICK_3_AND_0, 3, 0, 34, 35)?;
-    p9(&rt, P9_QUICK_65535, 65535, 65535, 34, 35)?;
+    p9(&rt, "P9", 0, 0, &P9)?;
+    p9(&rt, "P9, counts 3, 0", 3, 0, &[])?;
+    p9(&rt, "P9, counts 2, 1", 2, 1, &[])?;
+    p9(&rt, "P9, counts 65535", 65535, 65535, &[])?;
+    nines::<6>(&rt, "P10", &P10)?;
+    nines::<1>(&rt, "1 slot", &ONE_LIST)?;
+    nines::<2>(&rt, "2 slots", &ONE_LIST)?;
+    nines::<4096>(&rt, "4,096 slots", &ONE_LIST)?;
+    nines::<4097>(&rt, "4,097 slots", &ONE_LIST)?;
+    nines::<6>(&rt, "shares 2 and 3", &SHARES_2_AND_3)?;
+    nines::<6>(&rt, "shares 3 and 3", &SHARES_3_AND_3)?;
+    nines::<6>(&rt, "limit 0", &LIMIT_0)?;
+    nines::<6>(&rt, "P7, quick calls", &QUICK_TO_P7)?;
+    p9(&rt, "P9, 3, 0, quick", 3, 0, &QUICK_P9)?;
+    p9(&rt, "P9, 65535, quick", 65535, 65535, &QUICK_P9)?;
     broken::rules(&rt)
 }

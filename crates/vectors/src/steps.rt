@@ -1,119 +1,104 @@
-// The calls of the pools to try, in order, each shown with what it gives and leaves.
-use crate::calls::{
-    CHECK, CLEAR, LENGTH, LIST_1, POP_BACK, POP_FRONT, PUSH_BACK, PUSH_FRONT, QUICK, READ_BACKWARD,
-    READ_FORWARD, SETUP,
-};
-use crate::{calls, out};
-use books::Book;
-use std::io;
+// The calls of the pools to try, in order, and what is asked of every pool at its end.
+use crate::calls::{Change, Look};
 
-// A setup has its lists for the list, and four digits for the shares and the limits of the first two.
-const STEPS: [u64; 35] = [
+const TWO_LISTS: Change = Change::Setup {
+    lists: 2,
+    shares: [2, 1],
+    limits: [5, 3],
+};
+
+// P1 to P7, each of which goes on from the pool before: P1 is the first call, P2 the first four, and so on. No pool of 01's has the clear at
+// the end: what it gives was worked out from its words.
+pub(crate) const TO_P7: [Change; 11] = [
     // P1
-    SETUP + 22153,
+    TWO_LISTS,
     // P2
-    PUSH_BACK + 20,
-    PUSH_BACK + 30,
-    PUSH_FRONT + 10,
+    Change::PushBack { list: 0, value: 20 },
+    Change::PushBack { list: 0, value: 30 },
+    Change::PushFront { list: 0, value: 10 },
     // P3
-    PUSH_BACK + 40,
+    Change::PushBack { list: 0, value: 40 },
     // P4
-    PUSH_BACK + 50,
+    Change::PushBack { list: 0, value: 50 },
     // P5
-    PUSH_BACK + LIST_1 + 60,
-    PUSH_BACK + LIST_1 + 61,
+    Change::PushBack { list: 1, value: 60 },
+    Change::PushBack { list: 1, value: 61 },
     // P6
-    POP_FRONT,
+    Change::PopFront { list: 0 },
     // P7
-    PUSH_BACK + LIST_1 + 61,
-    // No pool of 01's has a clear: what it gives was worked out from its words.
-    CLEAR,
-    // P9
-    PUSH_BACK + 5,
-    PUSH_FRONT + 5,
-    POP_BACK,
-    POP_FRONT,
-    CLEAR,
-    // P10
-    SETUP + 22153,
-    POP_BACK + LIST_1,
-    // One list with share and limit 1, at the sizes about the smallest and the largest.
-    SETUP + 11010,
-    // Shares about the largest sum.
-    SETUP + 22353,
-    SETUP + 23353,
-    // Limit 0.
-    SETUP + 10000,
-    PUSH_BACK + 5,
-    PUSH_FRONT + 5,
-    // P1 to P7 once more, by quick calls.
-    SETUP + 22153,
-    QUICK + PUSH_BACK + 20,
-    QUICK + PUSH_BACK + 30,
-    QUICK + PUSH_FRONT + 10,
-    QUICK + PUSH_BACK + 40,
-    QUICK + PUSH_BACK + 50,
-    QUICK + PUSH_BACK + LIST_1 + 60,
-    QUICK + PUSH_BACK + LIST_1 + 61,
-    QUICK + POP_FRONT,
-    QUICK + PUSH_BACK + LIST_1 + 61,
-    // P9 by a quick call, which does not check the chain.
-    QUICK + POP_BACK,
+    Change::PushBack { list: 1, value: 61 },
+    Change::Clear { list: 0 },
 ];
+
+pub(crate) const P9: [Change; 5] = [
+    Change::PushBack { list: 0, value: 5 },
+    Change::PushFront { list: 0, value: 5 },
+    Change::PopBack { list: 0 },
+    Change::PopFront { list: 0 },
+    Change::Clear { list: 0 },
+];
+
+pub(crate) const P10: [Change; 2] = [TWO_LISTS, Change::PopBack { list: 1 }];
+
+// One list with share and limit 1, at the sizes about the smallest and the largest.
+pub(crate) const ONE_LIST: [Change; 1] = [Change::Setup {
+    lists: 1,
+    shares: [1, 0],
+    limits: [1, 0],
+}];
+
+// Shares about the largest sum.
+pub(crate) const SHARES_2_AND_3: [Change; 1] = [Change::Setup {
+    lists: 2,
+    shares: [2, 3],
+    limits: [5, 3],
+}];
+
+pub(crate) const SHARES_3_AND_3: [Change; 1] = [Change::Setup {
+    lists: 2,
+    shares: [3, 3],
+    limits: [5, 3],
+}];
+
+pub(crate) const LIMIT_0: [Change; 3] = [
+    Change::Setup {
+        lists: 1,
+        shares: [0, 0],
+        limits: [0, 0],
+    },
+    Change::PushBack { list: 0, value: 5 },
+    Change::PushFront { list: 0, value: 5 },
+];
+
+// P1 to P7 once more, by quick calls.
+pub(crate) const QUICK_TO_P7: [Change; 10] = [
+    TWO_LISTS,
+    Change::QuickPushBack { list: 0, value: 20 },
+    Change::QuickPushBack { list: 0, value: 30 },
+    Change::QuickPushFront { list: 0, value: 10 },
+    Change::QuickPushBack { list: 0, value: 40 },
+    Change::QuickPushBack { list: 0, value: 50 },
+    Change::QuickPushBack { list: 1, value: 60 },
+    Change::QuickPushBack { list: 1, value: 61 },
+    Change::QuickPopFront { list: 0 },
+    Change::QuickPushBack { list: 1, value: 61 },
+];
+
+// P9 by a quick call, which does not check the chain.
+pub(crate) const QUICK_P9: [Change; 1] = [Change::QuickPopBack { list: 0 }];
 
 // What is asked of every pool at its end: check, the length and both readings of the first two lists, and both readings of list 0 at the
 // buffer's length and one place further.
-const LOOKS: [u64; 11] = [
-    CHECK,
-    LENGTH,
-    READ_FORWARD + 1,
-    READ_BACKWARD + 1,
-    LENGTH + LIST_1,
-    READ_FORWARD + LIST_1 + 1,
-    READ_BACKWARD + LIST_1 + 1,
-    READ_FORWARD + 8,
-    READ_BACKWARD + 8,
-    READ_FORWARD + 9,
-    READ_BACKWARD + 9,
+pub(crate) const LOOKS: [Look; 11] = [
+    Look::Check,
+    Look::Length { list: 0 },
+    Look::ReadForward { list: 0, at: 1 },
+    Look::ReadBackward { list: 0, at: 1 },
+    Look::Length { list: 1 },
+    Look::ReadForward { list: 1, at: 1 },
+    Look::ReadBackward { list: 1, at: 1 },
+    Look::ReadForward { list: 0, at: 8 },
+    Look::ReadBackward { list: 0, at: 8 },
+    Look::ReadForward { list: 0, at: 9 },
+    Look::ReadBackward { list: 0, at: 9 },
 ];
-
-fn step(k: usize) -> u64 {
-    if k < 35 {
-        return STEPS[k];
-    }
-    0
-}
-
-// What stands in the pool and in the book.
-fn show(rt: &impl Print, links: &[u16], values: &[u64], book: Book) -> io::Result<()> {
-    out::text(rt, out::LINKS)?;
-    out::links(rt, links)?;
-    out::text(rt, out::VALUES)?;
-    out::cells(rt, values)?;
-    out::book(rt, book)
-}
-
-fn account(rt: &impl Print, links: &[u16], values: &[u64], book: Book) -> io::Result<()> {
-    show(rt, links, values, book)?;
-    for k in 0..11 {
-        calls::look(rt, links, values, book, LOOKS[k])?;
-    }
-    out::end(rt)
-}
-
-// The steps from `from` up to `to` on a pool, each behind what stands there before it, and then its account.
-pub(crate) fn run(
-    rt: &impl Print,
-    links: &mut [u16],
-    values: &mut [u64],
-    begun: Book,
-    from: usize,
-    to: usize,
-) -> io::Result<()> {
-    let mut book = begun;
-    for k in from..to {
-        show(rt, links, values, book)?;
-        book = calls::change(rt, links, values, book, step(k))?;
-    }
-    account(rt, links, values, book)
-}

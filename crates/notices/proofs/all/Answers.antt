@@ -9,14 +9,14 @@ use Rattle.wording.proofs.Notices.{notice_size, none_in, next_in, last_notice_in
 use Rattle.notices.proofs.all.Goals as goal
 
 pub loop-number-init : goal.loop-number-init
-loop-number-init c = (none_in c.args.out.now, search rules, search rules, search rules)
+loop-number-init c = (none_in c.args.out.now, search rules, search rules)
 
 pub loop-number-preserved : goal.loop-number-preserved
 loop-number-preserved c =
     let l = c.loop-number in
     let k = at_most_bytes c.notice-at.ensures in
     let s = notice_size l.number (omega arith) in
-    (next_in l.number (search rules) (search rules) l.invariant.0 c.notice-at.ensures, search rules, omega arith, search rules)
+    (next_in l.number (search rules) (search rules) l.invariant.0 c.notice-at.ensures, omega arith, search rules)
 
 pub returns : goal.returns
 returns c =
