@@ -2,6 +2,7 @@
 pub mod Tests
 pub mod Rules
 pub mod Numbers
+pub mod Errors
 pub mod Tabulate
 pub mod Eight
 pub mod Flat
