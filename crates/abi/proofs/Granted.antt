@@ -23,7 +23,7 @@ use Rattle.xor.specs.Slots.{take_of}
 use Rattle.xor.specs.Steps.{is_beside, push_empty_of, push_beside_of, push_of, pop_of}
 
 -- the entry has the share and the limit of the list
-abbrev Granted : Entry → Entry → Type 0
+abbrev pub Granted : Entry → Entry → Type 0
 Granted list e = (e.share ≡ list.share) × (e.limit ≡ list.limit)
 
 -- an entry with the ends and the length of another that is granted the same is that other

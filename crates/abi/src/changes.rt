@@ -1,14 +1,21 @@
 // Setup, the pushes, the pops and clear for C. A refused one changes neither the pool nor the book, and stores nothing there. Each but setup
-// writes the place, 0 and 0 where its number sets none: first these, so that a call that is done keeps nothing for it.
+// writes the place, 0 and 0 where its number sets none.
 ghost use Rattle.std.specs.Prelude.{◌≡◌};
-ghost use Rattle.books.specs.Words.{place_from};
+ghost use Rattle.books.specs.Book.{eight};
+ghost use Rattle.books.specs.Errors.{refusal_told};
+ghost use Rattle.books.specs.Place.{place_in};
+ghost use Rattle.books.specs.Words.{book_from, place_from};
 ghost use Rattle.books.specs.Outcome.{outcome};
-ghost use Rattle.faces.specs.Face.{prepared, changed, handed, setup_face, push_back_face, push_front_face, pop_back_face, pop_front_face, clear_face};
+ghost use Rattle.engines.specs.Calls.{push_call, pop_call};
+ghost use Rattle.xor.specs.Engine.{xor};
+ghost use Rattle.xor.specs.Ten.{as_answer, as_popped, clear_of};
+ghost use Rattle.faces.specs.Face.{prepared, changed, handed, as_changed, as_handed, setup_face, push_back_face, push_front_face, pop_back_face, pop_front_face, clear_face};
 
-use crate::words::keep;
-use books::Words;
-use pools::words::{entry_of, free_of, has_list};
+use crate::words::told;
+use books::{Refused, Words};
+use pools::words::put_list;
 use shapes::End;
+use shares::check::listed;
 
 #[unsafe(no_mangle)]
 pub extern "C" fn flailreeve_setup(
@@ -21,16 +28,14 @@ pub extern "C" fn flailreeve_setup(
 ) -> u16
     ensures { outcome (prepared result book.new) links.new values.new ≡ setup_face links.old values.old lists shares.now limits.now book.old }
 {
-    let number = shares::setup::lay_out(links, values, lists, shares, limits);
-    if number == 0 {
-        *book = pools::words::fresh_words(
-            lists,
-            shares,
-            limits,
-            shares::setup::free_slots(links.len()),
-        );
+    match shares::setup::lay_out(links, values, lists, shares, limits) {
+        Ok(()) => {
+            let free = shares::setup::free_slots(links.len());
+            *book = pools::words::fresh_words(lists, shares, limits, free);
+            0
+        }
+        Err(number) => number.into(),
     }
-    number
 }
 
 #[unsafe(no_mangle)]
@@ -44,22 +49,8 @@ pub extern "C" fn flailreeve_push_back(
 ) -> u16
     ensures { outcome (changed result (place_from place.new) book.new) links.new values.new ≡ push_back_face links.old values.old book.old list value }
 {
-    *place = [0, 0];
-    let word = pools::check::look(links, values, book);
-    let seen = pools::word::told(word);
-    let refusal = seen.refusal;
-    if refusal.number != 0 {
-        *place = [refusal.list, refusal.position];
-        return refusal.number;
-    }
-    if !has_list(book, list) {
-        return 4;
-    }
-    let found = seen.found;
-    let entry = entry_of(book, list);
-    let free = free_of(book);
-    let gone = shares::inner::push(links, values, End::Back, entry, free, found.lacks, value);
-    keep(book, list, gone)
+    let change = push(links, values, book, End::Back, list, value);
+    told(change.into(), place)
 }
 
 #[unsafe(no_mangle)]
@@ -73,22 +64,8 @@ pub extern "C" fn flailreeve_push_front(
 ) -> u16
     ensures { outcome (changed result (place_from place.new) book.new) links.new values.new ≡ push_front_face links.old values.old book.old list value }
 {
-    *place = [0, 0];
-    let word = pools::check::look(links, values, book);
-    let seen = pools::word::told(word);
-    let refusal = seen.refusal;
-    if refusal.number != 0 {
-        *place = [refusal.list, refusal.position];
-        return refusal.number;
-    }
-    if !has_list(book, list) {
-        return 4;
-    }
-    let found = seen.found;
-    let entry = entry_of(book, list);
-    let free = free_of(book);
-    let gone = shares::inner::push(links, values, End::Front, entry, free, found.lacks, value);
-    keep(book, list, gone)
+    let change = push(links, values, book, End::Front, list, value);
+    told(change.into(), place)
 }
 
 #[unsafe(no_mangle)]
@@ -102,23 +79,8 @@ pub extern "C" fn flailreeve_pop_back(
 ) -> u16
     ensures { outcome (handed result (place_from place.new) value.new book.new) links.new values.new ≡ pop_back_face links.old values.old book.old list }
 {
-    *place = [0, 0];
-    let word = pools::check::look(links, values, book);
-    let seen = pools::word::told(word);
-    let refusal = seen.refusal;
-    if refusal.number != 0 {
-        *place = [refusal.list, refusal.position];
-        *value = 0;
-        return refusal.number;
-    }
-    if !has_list(book, list) {
-        *value = 0;
-        return 4;
-    }
-    let entry = entry_of(book, list);
-    let free = free_of(book);
-    let gone = shares::inner::pop(links, values, End::Back, entry, free, value);
-    keep(book, list, gone)
+    let change = pop(links, values, book, End::Back, list, value);
+    told(change.into(), place)
 }
 
 #[unsafe(no_mangle)]
@@ -132,23 +94,8 @@ pub extern "C" fn flailreeve_pop_front(
 ) -> u16
     ensures { outcome (handed result (place_from place.new) value.new book.new) links.new values.new ≡ pop_front_face links.old values.old book.old list }
 {
-    *place = [0, 0];
-    let word = pools::check::look(links, values, book);
-    let seen = pools::word::told(word);
-    let refusal = seen.refusal;
-    if refusal.number != 0 {
-        *place = [refusal.list, refusal.position];
-        *value = 0;
-        return refusal.number;
-    }
-    if !has_list(book, list) {
-        *value = 0;
-        return 4;
-    }
-    let entry = entry_of(book, list);
-    let free = free_of(book);
-    let gone = shares::inner::pop(links, values, End::Front, entry, free, value);
-    keep(book, list, gone)
+    let change = pop(links, values, book, End::Front, list, value);
+    told(change.into(), place)
 }
 
 #[unsafe(no_mangle)]
@@ -161,19 +108,52 @@ pub extern "C" fn flailreeve_clear(
 ) -> u16
     ensures { outcome (changed result (place_from place.new) book.new) links.new values.new ≡ clear_face links.old values.old book.old list }
 {
-    *place = [0, 0];
-    let word = pools::check::look(links, values, book);
-    let seen = pools::word::told(word);
-    let refusal = seen.refusal;
-    if refusal.number != 0 {
-        *place = [refusal.list, refusal.position];
-        return refusal.number;
-    }
-    if !has_list(book, list) {
-        return 4;
-    }
-    let entry = entry_of(book, list);
-    let free = free_of(book);
-    let gone = shares::inner::clear(links, values, entry, free);
-    keep(book, list, gone)
+    let change = clear(links, values, book, list);
+    told(change.into(), place)
+}
+
+// A push at either end. Each end has its own tests, since this is inlined into its two callers.
+#[inline(always)]
+fn push(
+    links: &mut [u16],
+    values: &mut [u64],
+    book: &mut Words,
+    end: End,
+    list: u16,
+    value: u64,
+) -> Result<(), Refused>
+    ensures { outcome (changed (refusal_told result).number (place_in (refusal_told result)) book.new) links.new values.new ≡ as_changed book.old (as_answer (push_call xor links.old values.old (eight (book_from book.old)) list end value)) }
+{
+    let (lacks, chains) = listed(links, values, book, list)?;
+    let after = shares::inner::push(links, values, end, chains, lacks, value)?;
+    put_list(book, list, after);
+    Ok(())
+}
+
+// A pop at either end. Its value goes into the lent word, which is 0 where the pop is refused.
+#[inline(always)]
+fn pop(
+    links: &mut [u16],
+    values: &mut [u64],
+    book: &mut Words,
+    end: End,
+    list: u16,
+    value: &mut u64,
+) -> Result<(), Refused>
+    ensures { outcome (handed (refusal_told result).number (place_in (refusal_told result)) value.new book.new) links.new values.new ≡ as_handed book.old (as_popped (pop_call xor links.old values.old (eight (book_from book.old)) list end)) }
+{
+    *value = 0;
+    let (_, chains) = listed(links, values, book, list)?;
+    let after = shares::inner::pop(links, values, end, chains, value)?;
+    put_list(book, list, after);
+    Ok(())
+}
+
+fn clear(links: &mut [u16], values: &mut [u64], book: &mut Words, list: u16) -> Result<(), Refused>
+    ensures { outcome (changed (refusal_told result).number (place_in (refusal_told result)) book.new) links.new values.new ≡ as_changed book.old (clear_of links.old values.old (book_from book.old) list) }
+{
+    let (_, chains) = listed(links, values, book, list)?;
+    let after = shares::inner::clear(links, values, chains);
+    put_list(book, list, after);
+    Ok(())
 }

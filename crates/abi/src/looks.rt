@@ -3,6 +3,7 @@ ghost use Rattle.std.specs.Prelude.{◌≡◌};
 ghost use Rattle.books.specs.Words.{place_from};
 ghost use Rattle.faces.specs.Face.{checked, told, shown, check_face, length_face, read_forward_face, read_backward_face};
 
+use crate::words::told;
 use books::Words;
 use shapes::End;
 
@@ -15,12 +16,7 @@ pub extern "C" fn flailreeve_check(
 ) -> u16
     ensures { checked result (place_from place.new) ≡ check_face links.now values.now book.now }
 {
-    *place = [0, 0];
-    let refusal = shares::check::check_words(links, values, book);
-    if refusal.number != 0 {
-        *place = [refusal.list, refusal.position];
-    }
-    refusal.number
+    told(shares::check::check_words(links, values, book), place)
 }
 
 #[unsafe(no_mangle)]
@@ -34,14 +30,9 @@ pub extern "C" fn flailreeve_length(
 ) -> u16
     ensures { told result (place_from place.new) length.new ≡ length_face links.now values.now book.now list }
 {
-    *place = [0, 0];
     let answer = shares::reads::length_words(links, values, book, list);
-    let refusal = answer.refusal;
     *length = answer.length;
-    if refusal.number != 0 {
-        *place = [refusal.list, refusal.position];
-    }
-    refusal.number
+    told(answer.refusal, place)
 }
 
 #[unsafe(no_mangle)]
@@ -58,10 +49,8 @@ pub extern "C" fn flailreeve_read_forward(
     ensures { shown result (place_from place.new) count.new out.new ≡ read_forward_face links.now values.now book.now list out.old at }
 {
     let answer = shares::reads::read_words(links, values, End::Front, book, list, out, at);
-    let refusal = answer.refusal;
     *count = answer.count;
-    *place = [refusal.list, refusal.position];
-    refusal.number
+    told(answer.refusal, place)
 }
 
 #[unsafe(no_mangle)]
@@ -78,8 +67,6 @@ pub extern "C" fn flailreeve_read_backward(
     ensures { shown result (place_from place.new) count.new out.new ≡ read_backward_face links.now values.now book.now list out.old at }
 {
     let answer = shares::reads::read_words(links, values, End::Back, book, list, out, at);
-    let refusal = answer.refusal;
     *count = answer.count;
-    *place = [refusal.list, refusal.position];
-    refusal.number
+    told(answer.refusal, place)
 }

@@ -33,9 +33,8 @@ fn show(links: &mut [u16], values: &mut [u64], out: &mut [u8]) -> usize
     ensures { Written (shown_of links.old values.old) out.old 0 result out.new }
 {
     let pushed = calls::push_three(links, values);
-    let refusal = pushed.refusal;
-    if refusal.number != 0 {
-        return lines::refused(out, 0, refusal.number);
+    if pushed.refusal.number != 0 {
+        return lines::refused(out, 0, pushed.refusal.number);
     }
     let at = lines::three(out, 0, b"pushed: ", 2, 3, 1);
     let gone = calls::pop_three(links, values, pushed.book);
@@ -43,6 +42,7 @@ fn show(links: &mut [u16], values: &mut [u64], out: &mut [u8]) -> usize
 }
 
 // The lines of the pops, or the text of the first that was refused.
+#[tactic(auto, unfolding(shows::specs::Demo::shown_pops))]
 fn show_pops(out: &mut [u8], at: usize, gone: Gone) -> usize
     requires { at + 87 ≤ length out.old }
     ensures { Written (shown_pops gone) out.old at result out.new }

@@ -20,8 +20,8 @@ use Rattle.chains.proofs.Count.{count-append}
 use Rattle.shapes.specs.Met.{mark_all}
 use Rattle.shapes.specs.Walk.{Path, unwiped_from, Lowest}
 use Rattle.shapes.proofs.Unwiped.{unwiped_none, unwiped_lowest}
-use Rattle.shapes.specs.declared.Fault.{Fault}
-use Rattle.shapes.specs.declared.Found.{Found}
+use Rattle.shapes.specs.Records.{Fault}
+use Rattle.shapes.specs.Records.{Found}
 use Rattle.shapes.specs.Shape.{Shape, chain_at, joined_up, every_slot, lacks}
 use Rattle.shapes.specs.Faults.{fault, no_fault, nothing_met, gathered_none, idle_fault}
 use Rattle.engines.specs.Engine.{Engine}

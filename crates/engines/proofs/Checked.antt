@@ -14,8 +14,8 @@ use Rattle.books.specs.Test.{keeps_rules}
 use Rattle.books.proofs.Tests.{and_both, both_and}
 use Rattle.books.proofs.Rules.{size_fits_lem, keeps_rules_lem}
 use Rattle.shapes.specs.Walk.{Path}
-use Rattle.shapes.specs.declared.Fault.{Fault}
-use Rattle.shapes.specs.declared.Found.{Found}
+use Rattle.shapes.specs.Records.{Fault}
+use Rattle.shapes.specs.Records.{Found}
 use Rattle.shapes.specs.Shape.{Shape, chain_at, lacks}
 use Rattle.shapes.specs.Faults.{no_fault}
 use Rattle.engines.specs.Engine.{Engine}

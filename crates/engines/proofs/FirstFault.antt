@@ -10,8 +10,8 @@ use Rattle.books.specs.Book.{AnyBook}
 use Rattle.books.specs.Test.{keeps_rules}
 use Rattle.books.proofs.Tests.{not_both}
 use Rattle.books.proofs.Rules.{keeps_rules_lem}
-use Rattle.shapes.specs.declared.Fault.{Fault}
-use Rattle.shapes.specs.declared.Found.{Found}
+use Rattle.shapes.specs.Records.{Fault}
+use Rattle.shapes.specs.Records.{Found}
 use Rattle.shapes.specs.Shape.{Shape}
 use Rattle.shapes.specs.Faults.{fault, no_fault}
 use Rattle.engines.specs.Engine.{Engine}

@@ -14,7 +14,7 @@ use Rattle.chains.specs.Count.{count}
 use Rattle.chains.specs.Chain.{first_or, last_or}
 use Rattle.shapes.specs.Met.{seen}
 use Rattle.shapes.specs.Walk.{Path, walkable, walk_from, Passes}
-use Rattle.shapes.specs.declared.Gathered.{Gathered}
+use Rattle.shapes.specs.Records.{Gathered}
 use Rattle.shapes.specs.Faults.{fault, no_fault, lowest_unmet, count_fault, spare_fault, idle_fault}
 use Rattle.engines.specs.Engine.{Engine}
 use Rattle.engines.specs.Laws.{Lawful}

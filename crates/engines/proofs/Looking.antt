@@ -13,7 +13,7 @@ use Rattle.books.specs.Book.{entry_at, AnyBook}
 use Rattle.books.specs.Place.{no_place, numbered}
 use Rattle.books.proofs.Tests.{not_both}
 use Rattle.shapes.specs.declared.End.{End}
-use Rattle.shapes.specs.declared.Looked.{Looked}
+use Rattle.shapes.specs.Records.{Looked}
 use Rattle.shapes.specs.Shape.{Shape}
 use Rattle.shapes.specs.Ends.{near_of}
 use Rattle.shapes.specs.Numbers.{Test, first_that, decided}

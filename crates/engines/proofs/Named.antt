@@ -16,8 +16,8 @@ use Rattle.books.specs.Book.{entry_at, AnyBook}
 use Rattle.books.proofs.Tests.{cond_ind, not_both}
 use Rattle.shapes.specs.declared.End.{End}
 use Rattle.shapes.specs.declared.End.TheVariants.{Front, Back}
-use Rattle.shapes.specs.declared.Fault.{Fault}
-use Rattle.shapes.specs.declared.Found.{Found}
+use Rattle.shapes.specs.Records.{Fault}
+use Rattle.shapes.specs.Records.{Found}
 use Rattle.shapes.specs.Faults.{fault, no_fault, place_of, place_for}
 use Rattle.shapes.specs.Moves.{Move, check, ask_length, push_back, push_front, pop_back, pop_front, read_forward, read_backward, clear}
 use Rattle.shapes.specs.Numbers.{Test, test, first_that, decided}

@@ -6,7 +6,7 @@ use Rattle.books.specs.declared.Free.{Free}
 use Rattle.books.proofs.OneResult.{one_answer}
 use Rattle.shapes.specs.declared.LiveWalk.{LiveWalk}
 use Rattle.shapes.specs.declared.IdleWalk.{IdleWalk}
-use Rattle.shapes.specs.declared.ListChange.{ListChange}
+use Rattle.shapes.specs.Records.{ListChange}
 use Rattle.engines.specs.Engine.{Engine}
 use Rattle.engines.specs.Walked.{LiveWalked, IdleWalked}
 use Rattle.engines.specs.OnList.{OnList, on_list, LaidOut, laid_out}

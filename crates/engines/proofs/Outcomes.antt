@@ -11,7 +11,7 @@ use borrow.Author.Tests.{eqb-true, eq-eqb, eqb-false, leb-true, leb-false, lt-lt
 use Rattle.books.specs.declared.Entry.{Entry}
 use Rattle.books.specs.Book.{entry_at, AnyBook}
 use Rattle.shapes.specs.declared.End.{End}
-use Rattle.shapes.specs.declared.Fault.{Fault}
+use Rattle.shapes.specs.Records.{Fault}
 use Rattle.shapes.specs.Shape.{Shape, chain_at, lacks, Room, stored_lacks}
 use Rattle.books.specs.declared.Length.{Length}
 use Rattle.shapes.specs.Numbers.{Test, first_that, decided}

@@ -16,7 +16,7 @@ use Rattle.books.specs.Place.{no_place}
 use Rattle.books.proofs.Tests.{both_and}
 use Rattle.shapes.specs.declared.End.{End}
 use Rattle.shapes.specs.Ends.{joined}
-use Rattle.shapes.specs.declared.Fault.{Fault}
+use Rattle.shapes.specs.Records.{Fault}
 use Rattle.shapes.specs.Shape.{Shape, chain_at, stored_lacks}
 use Rattle.shapes.specs.Moves.{Move, check, QuickMove, quick_push_back, quick_push_front, quick_pop_back, quick_pop_front, checked_of, Call, checked, quick, move_of}
 use Rattle.shapes.specs.Numbers.{Test, test, first_that, decided}

@@ -9,7 +9,7 @@ use Rattle.books.specs.Book.{entry_at}
 use Rattle.books.specs.Table.{may_give}
 use Rattle.books.proofs.Tests.{and_both, cond_ind}
 use Rattle.shapes.specs.declared.End.TheVariants.{Front, Back}
-use Rattle.shapes.specs.declared.Fault.{Fault}
+use Rattle.shapes.specs.Records.{Fault}
 use Rattle.shapes.specs.Shape.{stored_lacks}
 use Rattle.shapes.specs.Numbers.{Test, test, first_that}
 use Rattle.shapes.specs.Tests.{push_own_tests, pop_own_tests, read_own_tests}

@@ -15,9 +15,9 @@ use Rattle.books.specs.Place.{no_place}
 use Rattle.books.specs.Table.{fault_rules, among}
 use Rattle.books.specs.Test.{keeps_rules}
 use Rattle.books.proofs.Tests.{cond_ind}
-use Rattle.shapes.specs.declared.Fault.{Fault}
-use Rattle.shapes.specs.declared.Found.{Found}
-use Rattle.shapes.specs.declared.Gathered.{Gathered}
+use Rattle.shapes.specs.Records.{Fault}
+use Rattle.shapes.specs.Records.{Found}
+use Rattle.shapes.specs.Records.{Gathered}
 use Rattle.shapes.specs.Met.{mark_all}
 use Rattle.shapes.specs.Walk.{Path}
 use Rattle.shapes.specs.Faults.{fault, no_fault, place_for, nothing_met, gathered_none, gather_one, Round, count_fault, spare_fault, idle_fault}

@@ -16,8 +16,8 @@ use Rattle.books.specs.declared.Free.{Free}
 use Rattle.books.specs.Book.{zero_entry, entry_at}
 use Rattle.books.proofs.Tests.{cond_ind}
 use Rattle.shapes.specs.declared.LiveWalk.{LiveWalk}
-use Rattle.shapes.specs.declared.Gathered.{Gathered}
-use Rattle.shapes.specs.declared.Found.{Found}
+use Rattle.shapes.specs.Records.{Gathered}
+use Rattle.shapes.specs.Records.{Found}
 use Rattle.shapes.specs.Met.{is_met_of, unmarked, mark_all, unmet}
 use Rattle.shapes.specs.Faults.{fault, nothing_met, gathered_none, gather_one, gather_fault, Round, round, lowest_unmet, faulty}
 use Rattle.shapes.proofs.Seen.{unmet_le}

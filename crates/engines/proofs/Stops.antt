@@ -17,7 +17,7 @@ use Rattle.chains.proofs.Count.{count-append}
 use Rattle.shapes.specs.declared.End.TheVariants.{Front}
 use Rattle.shapes.specs.Met.{mark_all}
 use Rattle.shapes.specs.Walk.{Path, walkable, Passes}
-use Rattle.shapes.specs.declared.Gathered.{Gathered}
+use Rattle.shapes.specs.Records.{Gathered}
 use Rattle.shapes.specs.Shape.{joined_up}
 use Rattle.shapes.specs.Faults.{fault, gather_one, Round}
 use Rattle.engines.specs.Engine.{Engine}

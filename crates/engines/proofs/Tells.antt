@@ -11,7 +11,7 @@ use Rattle.books.specs.declared.Refusal.{Refusal}
 use Rattle.books.specs.Book.{AnyBook}
 use Rattle.books.specs.Place.{numbered}
 use Rattle.books.proofs.Tests.{not_both}
-use Rattle.shapes.specs.declared.Fault.{Fault}
+use Rattle.shapes.specs.Records.{Fault}
 use Rattle.shapes.specs.Shape.{Shape}
 use Rattle.shapes.specs.Faults.{fault, naming}
 use Rattle.engines.specs.Engine.{Engine}

@@ -15,7 +15,7 @@ use Rattle.books.specs.Book.{entry_at, AnyBook}
 use Rattle.books.specs.Table.{fault_rules, among}
 use Rattle.books.proofs.Tests.{and_both, both_and, not_both}
 use Rattle.shapes.specs.declared.End.{End}
-use Rattle.shapes.specs.declared.Fault.{Fault}
+use Rattle.shapes.specs.Records.{Fault}
 use Rattle.shapes.specs.Faults.{fault, no_fault}
 use Rattle.shapes.specs.Shape.{Shape, chain_at, lacks, stored_lacks}
 use Rattle.books.specs.declared.Length.{Length}

@@ -15,9 +15,9 @@ use Rattle.books.specs.Book.{null_slot, AnyBook}
 use Rattle.books.specs.Test.{keeps_rules}
 use Rattle.books.proofs.Tests.{cond_ind}
 use Rattle.chains.specs.Count.{count}
-use Rattle.shapes.specs.declared.Fault.{Fault}
-use Rattle.shapes.specs.declared.Found.{Found}
-use Rattle.shapes.specs.declared.Gathered.{Gathered}
+use Rattle.shapes.specs.Records.{Fault}
+use Rattle.shapes.specs.Records.{Found}
+use Rattle.shapes.specs.Records.{Gathered}
 use Rattle.shapes.specs.Met.{is_met_of, mark_all, unmet}
 use Rattle.shapes.specs.Walk.{unwiped_from, Passes}
 use Rattle.shapes.specs.Faults.{nothing_met, gathered_none, gather_one, Round, lowest_unmet, count_fault, spare_fault, idle_fault}

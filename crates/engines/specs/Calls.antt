@@ -8,9 +8,9 @@ use Rattle.books.specs.Tabulate.{tabulate}
 use Rattle.shapes.specs.declared.End.{End}
 use Rattle.shapes.specs.Ends.{near_of}
 use Rattle.shapes.specs.Shape.{stored_lacks}
-use Rattle.shapes.specs.declared.Fault.{Fault}
-use Rattle.shapes.specs.declared.Found.{Found}
-use Rattle.shapes.specs.declared.Looked.{Looked}
+use Rattle.shapes.specs.Records.{Fault}
+use Rattle.shapes.specs.Records.{Found}
+use Rattle.shapes.specs.Records.{Looked}
 use Rattle.shapes.specs.Faults.{place_for, answering, refused_by}
 use Rattle.books.specs.declared.Length.{Length}
 use Rattle.shapes.specs.Numbers.{Test, test, decided}

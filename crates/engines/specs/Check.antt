@@ -9,9 +9,9 @@ use Rattle.chains.specs.Chain.{cell, last_or}
 use Rattle.shapes.specs.declared.End.TheVariants.{Front}
 use Rattle.shapes.specs.Met.{mark_all}
 use Rattle.shapes.specs.Walk.{Path, no_path, unwiped_from, walk_from}
-use Rattle.shapes.specs.declared.Gathered.{Gathered}
-use Rattle.shapes.specs.declared.Found.{Found}
-use Rattle.shapes.specs.declared.Looked.{Looked}
+use Rattle.shapes.specs.Records.{Gathered}
+use Rattle.shapes.specs.Records.{Found}
+use Rattle.shapes.specs.Records.{Looked}
 use Rattle.shapes.specs.Faults.{fault, naming, looked_fine, nothing_met, gathered_none, gather_one, gather_fault, Round, round, idle_fault, faulty, refused_by}
 use Rattle.engines.specs.Engine.{Engine}
 

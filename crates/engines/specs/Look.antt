@@ -2,8 +2,8 @@
 use Rattle.std.specs.Prelude.{◌≡◌, ◌↔◌, ◌≢◌, List, ℕ, take}
 use Rattle.books.specs.Book.{AnyBook}
 use Rattle.books.specs.Place.{numbered}
-use Rattle.shapes.specs.declared.Fault.{Fault}
-use Rattle.shapes.specs.declared.Looked.{Looked}
+use Rattle.shapes.specs.Records.{Fault}
+use Rattle.shapes.specs.Records.{Looked}
 use Rattle.shapes.specs.Shape.{Shape, lacks}
 use Rattle.shapes.specs.Faults.{no_fault, naming, faulty}
 use Rattle.engines.specs.Engine.{Engine}

@@ -4,7 +4,7 @@ use Rattle.books.specs.declared.Free.{Free}
 use Rattle.books.specs.declared.Entry.{Entry}
 use Rattle.books.specs.Book.{AnyBook}
 use Rattle.books.specs.Place.{no_place}
-use Rattle.shapes.specs.declared.ListChange.{ListChange}
+use Rattle.shapes.specs.Records.{ListChange}
 use Rattle.shapes.specs.declared.End.{End}
 use Rattle.shapes.specs.Counts.{word_up, word_down}
 use Rattle.shapes.specs.Changes.{with_list}

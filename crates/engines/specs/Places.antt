@@ -2,7 +2,7 @@
 use Rattle.std.specs.Prelude.{Bool, true, ◌&&◌, List, [], ◌∷◌, ℕ, eqb, length, set, replicate}
 use Rattle.books.specs.declared.Entry.{Entry}
 use Rattle.books.specs.Tried.{entry, none}
-use Rattle.shapes.specs.declared.Fault.{Fault}
+use Rattle.shapes.specs.Records.{Fault}
 use Rattle.shapes.specs.Faults.{fault, no_fault, round}
 use Rattle.engines.specs.Check.{idle_found, check_found}
 use Rattle.engines.specs.Moves.{State}

@@ -1,5 +1,7 @@
 // The four end calls over a book that is lent: each copies the book out, calls the by-value call and stores the book that comes back.
 // They are exported under their own names. What C owes and no proof sees: pointers that are aligned and not null, true lengths, and links, values and a book that do not overlap.
+// Each is written out, and no helper is handed the call as a closure: it would hold both slices, and the proof of `returns` stays open, since
+// what an `FnOnce` ensures says nothing of what it borrowed and changed.
 #![tactic(auto)]
 
 ghost use Rattle.std.specs.Prelude.{◌≡◌};
@@ -20,8 +22,7 @@ pub extern "C" fn flailreeve_lent_push_back(
 ) -> Refusal
     ensures { outcome (pushed result book.new) links.new values.new ≡ push_back_of links.old values.old book.old list value }
 {
-    let held = *book;
-    let gone = shares::ends::push_back(links, values, held, list, value);
+    let gone = shares::ends::push_back(links, values, *book, list, value);
     *book = gone.book;
     gone.refusal
 }
@@ -37,8 +38,7 @@ pub extern "C" fn flailreeve_lent_push_front(
 ) -> Refusal
     ensures { outcome (pushed result book.new) links.new values.new ≡ push_front_of links.old values.old book.old list value }
 {
-    let held = *book;
-    let gone = shares::ends::push_front(links, values, held, list, value);
+    let gone = shares::ends::push_front(links, values, *book, list, value);
     *book = gone.book;
     gone.refusal
 }
@@ -53,8 +53,7 @@ pub extern "C" fn flailreeve_lent_pop_back(
 ) -> Value
     ensures { outcome (popped result book.new) links.new values.new ≡ pop_back_of links.old values.old book.old list }
 {
-    let held = *book;
-    let gone = shares::ends::pop_back(links, values, held, list);
+    let gone = shares::ends::pop_back(links, values, *book, list);
     *book = gone.book;
     gone.given
 }
@@ -69,8 +68,7 @@ pub extern "C" fn flailreeve_lent_pop_front(
 ) -> Value
     ensures { outcome (popped result book.new) links.new values.new ≡ pop_front_of links.old values.old book.old list }
 {
-    let held = *book;
-    let gone = shares::ends::pop_front(links, values, held, list);
+    let gone = shares::ends::pop_front(links, values, *book, list);
     *book = gone.book;
     gone.given
 }

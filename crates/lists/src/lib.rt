@@ -1,14 +1,16 @@
 // Layer 2: upstream's list over a lent pool, as total steps under upstream's names and in its order (000: `DListXor`). The
-// stored length stays as it is: the calls count.
+// stored length stays as it is: the calls count. Every step answers with the list and the idle chain as it leaves them, or with none where it is
+// refused; nothing changes then.
 #![tactic(auto)]
 
 ghost use Rattle.std.specs.Prelude.{◌≡◌};
 ghost use Rattle.books.specs.Outcome.{outcome};
 ghost use Rattle.shapes.specs.Ends.{new_of, near_of, with_near, with_both, emptied};
-ghost use Rattle.xor.specs.Steps.{is_beside, done_push, refused_push, push_empty_of, push_beside_of, push_of, done_pop, refused_pop, pop_of};
+ghost use Rattle.shapes.specs.Records.{push_step_by, pop_step_by};
+ghost use Rattle.xor.specs.Steps.{is_beside, push_empty_of, push_beside_of, push_of, pop_of};
 
-use books::{Book, Entry, Free};
-use shapes::{End, PopStep, PushStep, Released, Taken};
+use books::{Book, Entry};
+use shapes::{Chains, End};
 
 // The empty list.
 pub fn new(share: u16, limit: u16) -> Entry
@@ -24,66 +26,67 @@ pub fn new(share: u16, limit: u16) -> Entry
 }
 
 // The first value of an empty list: its slot has link 0 and is both ends.
-// Refused on a list that has a tail, or where no slot can be taken; nothing changes then.
+// Refused on a list that has a tail, or where no slot can be taken.
+#[tactic(auto, using(xor::proofs::Slot::in_pool_lem), unfolding(xor::specs::Steps::push_empty_of, xor::specs::Slots::take_of))]
 pub fn push_empty_case(
     links: &mut [u16],
     values: &mut [u64],
-    list: Entry,
-    free: Free,
+    chains: Chains,
     value: u64,
-) -> PushStep
-    ensures { outcome result links.new values.new ≡ push_empty_of links.old values.old list free value }
+) -> Option<Chains>
+    ensures { outcome (push_step_by chains result) links.new values.new ≡ push_empty_of links.old values.old chains.list chains.idle value }
 {
-    if list.tail != Book::NULL {
-        return refused_push(list, free);
+    if chains.list.tail != Book::NULL {
+        return None;
     }
-    let Taken::Slot(slot, rest) = slots::take(links, values, free) else {
-        return refused_push(list, free);
+    let Some((slot, idle)) = slots::take(links, values, chains.idle) else {
+        return None;
     };
-    let i = slot as usize;
+    let i = usize::from(slot);
     links[i] = Book::NULL;
     values[i] = value;
-    done_push(with_both(slot, list), rest)
+    Some(Chains {
+        list: with_both(slot, chains.list),
+        idle,
+    })
 }
 
-// Refused where no slot can be taken, or where the end slot is no slot or is the taken one; nothing changes then.
+// Refused where no slot can be taken, or where the end slot is no slot or is the taken one.
 pub fn push_back(
     links: &mut [u16],
     values: &mut [u64],
-    list: Entry,
-    free: Free,
+    chains: Chains,
     value: u64,
-) -> PushStep
-    ensures { outcome result links.new values.new ≡ push_of End.Back links.old values.old list free value }
+) -> Option<Chains>
+    ensures { outcome (push_step_by chains result) links.new values.new ≡ push_of End.Back links.old values.old chains.list chains.idle value }
 {
-    push(links, values, End::Back, list, free, value)
+    push(links, values, End::Back, chains, value)
 }
 
-// Refused where the end slot is no slot, or where its neighbour is neither null nor another slot; nothing changes then.
-pub fn pop_back(links: &mut [u16], values: &mut [u64], list: Entry, free: Free) -> PopStep
-    ensures { outcome result links.new values.new ≡ pop_of End.Back links.old values.old list free }
+// Refused where the end slot is no slot, or where its neighbour is neither null nor another slot.
+pub fn pop_back(links: &mut [u16], values: &mut [u64], chains: Chains) -> Option<(u64, Chains)>
+    ensures { outcome (pop_step_by chains result) links.new values.new ≡ pop_of End.Back links.old values.old chains.list chains.idle }
 {
-    pop(links, values, End::Back, list, free)
+    pop(links, values, End::Back, chains)
 }
 
 // Refused as `pop_back` is, at the other end.
-pub fn pop_front(links: &mut [u16], values: &mut [u64], list: Entry, free: Free) -> PopStep
-    ensures { outcome result links.new values.new ≡ pop_of End.Front links.old values.old list free }
+pub fn pop_front(links: &mut [u16], values: &mut [u64], chains: Chains) -> Option<(u64, Chains)>
+    ensures { outcome (pop_step_by chains result) links.new values.new ≡ pop_of End.Front links.old values.old chains.list chains.idle }
 {
-    pop(links, values, End::Front, list, free)
+    pop(links, values, End::Front, chains)
 }
 
 // Refused as `push_back` is, at the other end.
 pub fn push_front(
     links: &mut [u16],
     values: &mut [u64],
-    list: Entry,
-    free: Free,
+    chains: Chains,
     value: u64,
-) -> PushStep
-    ensures { outcome result links.new values.new ≡ push_of End.Front links.old values.old list free value }
+) -> Option<Chains>
+    ensures { outcome (push_step_by chains result) links.new values.new ≡ push_of End.Front links.old values.old chains.list chains.idle value }
 {
-    push(links, values, End::Front, list, free, value)
+    push(links, values, End::Front, chains, value)
 }
 
 // The slot at an end.
@@ -103,20 +106,8 @@ fn with_near(end: End, slot: u16, list: Entry) -> Entry
     ensures { result ≡ with_near end slot list }
 {
     match end {
-        End::Front => Entry {
-            head: slot,
-            tail: list.tail,
-            share: list.share,
-            limit: list.limit,
-            length: list.length,
-        },
-        End::Back => Entry {
-            head: list.head,
-            tail: slot,
-            share: list.share,
-            limit: list.limit,
-            length: list.length,
-        },
+        End::Front => Entry { head: slot, ..list },
+        End::Back => Entry { tail: slot, ..list },
     }
 }
 
@@ -127,9 +118,7 @@ fn with_both(both: u16, list: Entry) -> Entry
     Entry {
         head: both,
         tail: both,
-        share: list.share,
-        limit: list.limit,
-        length: list.length,
+        ..list
     }
 }
 
@@ -137,13 +126,7 @@ fn with_both(both: u16, list: Entry) -> Entry
 fn emptied(list: Entry) -> Entry
     ensures { result ≡ emptied list }
 {
-    Entry {
-        head: 0,
-        tail: 0,
-        share: list.share,
-        limit: list.limit,
-        length: list.length,
-    }
+    with_both(Book::NULL, list)
 }
 
 // Is `near` a slot of the pool other than `slot`?
@@ -151,123 +134,79 @@ fn emptied(list: Entry) -> Entry
 fn is_beside(links: &[u16], values: &[u64], near: u16, slot: u16) -> bool
     ensures { result ≡ is_beside links.now values.now near slot }
 {
-    if near == slot {
-        return false;
-    }
-    slots::in_pool(links, values, near)
-}
-
-fn done_push(list: Entry, free: Free) -> PushStep
-    ensures { result ≡ done_push list free }
-{
-    PushStep {
-        done: true,
-        entry: list,
-        free,
-    }
-}
-
-fn refused_push(list: Entry, free: Free) -> PushStep
-    ensures { result ≡ refused_push list free }
-{
-    PushStep {
-        done: false,
-        entry: list,
-        free,
-    }
-}
-
-fn refused_pop(list: Entry, free: Free) -> PopStep
-    ensures { result ≡ refused_pop list free }
-{
-    PopStep {
-        done: false,
-        value: 0,
-        entry: list,
-        free,
-    }
-}
-
-// The value of a slot that was released, with the list as it is then.
-fn done_pop(value: u64, list: Entry, freed: Released) -> PopStep
-    ensures { result ≡ done_pop value list freed }
-{
-    let rest = freed.free;
-    PopStep {
-        done: freed.done,
-        value,
-        entry: list,
-        free: rest,
-    }
+    near != slot && slots::in_pool(links, values, near)
 }
 
 // A value at an end. Both ends test the tail alone.
 #[tactic(auto, unfolding(xor::specs::Steps::push_of))]
-fn push(
+pub fn push(
     links: &mut [u16],
     values: &mut [u64],
     end: End,
-    list: Entry,
-    free: Free,
+    chains: Chains,
     value: u64,
-) -> PushStep
-    ensures { outcome result links.new values.new ≡ push_of end links.old values.old list free value }
+) -> Option<Chains>
+    ensures { outcome (push_step_by chains result) links.new values.new ≡ push_of end links.old values.old chains.list chains.idle value }
 {
-    if list.tail == Book::NULL {
-        push_empty_case(links, values, list, free, value)
+    if chains.list.tail == Book::NULL {
+        push_empty_case(links, values, chains, value)
     } else {
-        push_beside(links, values, end, list, free, value)
+        push_beside(links, values, end, chains, value)
     }
 }
 
 // A value beside the slot at an end of a list that has one.
+#[tactic(auto, using(xor::proofs::Slot::in_pool_lem), unfolding(xor::specs::Steps::push_beside_of, xor::specs::Slots::take_of, xor::specs::Steps::is_beside))]
 fn push_beside(
     links: &mut [u16],
     values: &mut [u64],
     end: End,
-    list: Entry,
-    free: Free,
+    chains: Chains,
     value: u64,
-) -> PushStep
-    ensures { outcome result links.new values.new ≡ push_beside_of end links.old values.old list free value }
+) -> Option<Chains>
+    ensures { outcome (push_step_by chains result) links.new values.new ≡ push_beside_of end links.old values.old chains.list chains.idle value }
 {
-    let Taken::Slot(slot, rest) = slots::take(links, values, free) else {
-        return refused_push(list, free);
+    let Some((slot, idle)) = slots::take(links, values, chains.idle) else {
+        return None;
     };
-    let near = near_of(end, list);
+    let near = near_of(end, chains.list);
     if !is_beside(links, values, near, slot) {
-        return refused_push(list, free);
+        return None;
     }
-    let i = slot as usize;
-    let j = near as usize;
-    links[j] = links[j] ^ slot;
+    let i = usize::from(slot);
+    links[usize::from(near)] ^= slot;
     links[i] = near;
     values[i] = value;
-    done_push(with_near(end, slot, list), rest)
+    Some(Chains {
+        list: with_near(end, slot, chains.list),
+        idle,
+    })
 }
 
 // The slot at an end leaves the list. All tests stand before the first store. It is always inlined: a call would hand the value over in
 // memory, and leave it in the dead stack.
 #[inline(always)]
-fn pop(links: &mut [u16], values: &mut [u64], end: End, list: Entry, free: Free) -> PopStep
-    ensures { outcome result links.new values.new ≡ pop_of end links.old values.old list free }
+#[tactic(auto, using(xor::proofs::Slot::in_pool_lem), unfolding(xor::specs::Steps::pop_of, xor::specs::Slots::release_of, xor::specs::Steps::is_beside))]
+pub fn pop(links: &mut [u16], values: &mut [u64], end: End, chains: Chains) -> Option<(u64, Chains)>
+    ensures { outcome (pop_step_by chains result) links.new values.new ≡ pop_of end links.old values.old chains.list chains.idle }
 {
-    let old = near_of(end, list);
-    if !slots::in_pool(links, values, old) {
-        return refused_pop(list, free);
+    let gone = near_of(end, chains.list);
+    if !slots::in_pool(links, values, gone) {
+        return None;
     }
-    let i = old as usize;
+    let i = usize::from(gone);
     let near = links[i];
     let value = values[i];
     if near == Book::NULL {
-        let freed = slots::release(links, values, old, free);
-        return done_pop(value, emptied(list), freed);
+        let idle = slots::release(links, values, gone, chains.idle)?;
+        let list = emptied(chains.list);
+        return Some((value, Chains { list, idle }));
     }
-    if !is_beside(links, values, near, old) {
-        return refused_pop(list, free);
+    if !is_beside(links, values, near, gone) {
+        return None;
     }
-    let freed = slots::release(links, values, old, free);
-    let j = rules::wide(near);
-    links[j] = links[j] ^ old;
-    done_pop(value, with_near(end, near, list), freed)
+    let idle = slots::release(links, values, gone, chains.idle)?;
+    links[usize::from(near)] ^= gone;
+    let list = with_near(end, near, chains.list);
+    Some((value, Chains { list, idle }))
 }

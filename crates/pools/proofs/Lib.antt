@@ -1,5 +1,7 @@
--- How a book is put into words, what a look tells put into one number, and the stored counts one by one.
+-- How a book is put into words, what the check finds in the code's words, and the stored counts one by one.
 pub mod Put
-pub mod Packed
+pub mod Found
 pub mod Told
 pub mod Tallied
+pub mod Packed
+pub mod Handed

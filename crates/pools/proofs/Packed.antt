@@ -5,7 +5,7 @@ use Prim.Native.Nat.{ℕ, ◌+◌, ◌*◌, ◌/◌, ◌%◌, ◌<◌}
 use native.Mathlib.Decide.{ℕ_discrete}
 use native.Mathlib.Omega.{arith, div_fact, mod_fact}
 use borrow.Author.Tests.{ne_eqb}
-use Rattle.shapes.specs.declared.Looked.{Looked}
+use Rattle.shapes.specs.Records.{Looked}
 use Rattle.pools.specs.Word.{fine, broken_at, told_by, NoMore}
 
 low : (a b : ℕ) → a < 65536 → (a + 65536 * b) % 65536 ≡ a

@@ -1,5 +1,5 @@
 -- A book is put into 43 words entry by entry: what holds before the loop, after each turn and at the end.
-use mathlib.Core.Path.{◌≡◌, refl, sym, subst, ◌∙◌}
+use mathlib.Core.Path.{◌≡◌, refl, sym, ◌∙◌}
 use mathlib.Core.List.{List}
 use Prim.Native.Nat.{ℕ, ◌+◌, ◌*◌, ◌<◌}
 use native.Mathlib.Omega.{arith}
@@ -68,12 +68,6 @@ module _ (words : List ℕ) (entries : List Entry) (free : Free) where
 
       many : Filling 0 (word_in words entries free) words (set four (5 * l + 5) (entry_at entries l).length) (5 * l + 6)
       many = next four (5 * l + 5) (5 * l + 6) _ (omega arith) (omega (arith, limit.size, F.size)) (sym (length_word b l h)) limit
-
-  -- the same of an entry that is known by another name
-  pub put_entry : (e : Entry) (now : List ℕ) (l : ℕ) → entry_at entries l ≡ e → l < length entries → 5 * l + 5 < length now → Putting words entries free now l
-      → Putting words entries free (set (set (set (set (set now (5 * l + 1) e.head) (5 * l + 2) e.tail) (5 * l + 3) e.share) (5 * l + 4) e.limit) (5 * l + 5) e.length) (l + 1)
-  put_entry e now l i h room F =
-      subst (λ (x : Entry). Putting words entries free (set (set (set (set (set now (5 * l + 1) x.head) (5 * l + 2) x.tail) (5 * l + 3) x.share) (5 * l + 4) x.limit) (5 * l + 5) x.length) (l + 1)) i (put_more now l h room F)
 
   pub put_all : (now : List ℕ) (l : ℕ) → length words ≡ 43 → length entries ≡ 8 → l ≡ 8 → Putting words entries free now l
       → set (set now 41 free.head) 42 free.count ≡ words_of (being words entries free)

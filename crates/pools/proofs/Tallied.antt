@@ -6,13 +6,17 @@ use mathlib.Core.List.{List, [], ◌∷◌}
 use Prim.Native.Nat.{ℕ, ◌+◌, ◌-◌, ◌≤◌, ◌<◌}
 use native.Mathlib.Numerals.{add-one}
 use native.Mathlib.Omega.{arith}
+use Rattle.std.specs.Prelude.{Result, Ok, Err, IsErrAnd}
 use lib.Dec.{ltb, leb}
 use lib.ListN.{length, take, drop, drop_of_length-le}
 use lib.Seq.{drop-cons}
 use borrow.Author.Tests.{lt-ltb, le-ltb}
 use Rattle.books.specs.declared.Entry.{Entry}
+use Rattle.books.specs.declared.Number.{Number}
+use Rattle.books.specs.Errors.{error_number}
 use Rattle.books.specs.Book.{most_lists, zero_entry, AnyBook}
 use Rattle.books.specs.Tabulate.{tabulate}
+use Rattle.books.proofs.Errors.{number_positive}
 use Rattle.books.proofs.Eight.{used_many, used_at}
 use Rattle.shapes.specs.Shape.{stored_lacks}
 use Rattle.shapes.specs.Numbers.{first_that}
@@ -20,7 +24,7 @@ use Rattle.shapes.specs.Quick.{lists_inside, lengths_fit}
 use Rattle.engines.specs.Check.{sizes_fit}
 use Rattle.engines.specs.Quick.{quick_list_tests}
 use Rattle.xor.specs.Engine.{xor}
-use Rattle.pools.specs.Quick.{counted_tests}
+use Rattle.pools.specs.Quick.{counted_tests, early_number}
 
 -- ---- one list at a time
 
@@ -91,3 +95,10 @@ module _ (links values : List ℕ) (b : AnyBook) (l : ℕ) where
 
     pub lengths_decide : {n : ℕ} → n ≡ b.lists → first_that (quick_list_tests xor links values b l) ≡ cond (lengths_fit (length links) (take n b.entries)) 0 17
     lengths_decide e = counted_passes ∙ ap (λ (m : ℕ). cond (lengths_fit (length links) (take m b.entries)) 0 17) (sym e)
+
+  -- as the code says it: the number of a test before the lengths, handed on
+  pub early_stops : (r : Result ℕ Number) (n : Number) → IsErrAnd r (λ m. m ≡ n) → error_number n ≡ first_that (counted_tests xor links values b l) → early_number r ≡ first_that (quick_list_tests xor links values b l)
+  early_stops (Ok lacks) n h e = absurd h
+  early_stops (Err m) n h e =
+      let f : error_number m ≡ first_that (counted_tests xor links values b l) = ap error_number h ∙ e in
+      f ∙ counted_stops (λ z. omega (arith, number_positive m, f, z))

@@ -1,6 +1,8 @@
--- The tests of a quick call that stand before those of the stored lengths, as they run.
-use Rattle.std.specs.Prelude.{not, List, [], ◌∷◌, ℕ, ltb, leb}
+-- The tests of a quick call that stand before those of the stored lengths, as they run; and how the code says which test applies.
+use Rattle.std.specs.Prelude.{not, List, [], ◌∷◌, ℕ, ltb, leb, Result, Ok, Err}
 use Rattle.books.specs.Book.{AnyBook}
+use Rattle.books.specs.declared.Number.{Number}
+use Rattle.books.specs.Errors.{error_number}
 use Rattle.shapes.specs.Numbers.{Test, test}
 use Rattle.shapes.specs.Quick.{lists_inside}
 use Rattle.engines.specs.Engine.{Engine}
@@ -14,3 +16,8 @@ counted_tests E links values b l =
     ∷ test 4 (leb b.lists l)
     ∷ test 17 (not (ltb b.free.count (E.size links)))
     ∷ []
+
+-- the number that refuses, or 0 where none does
+abbrev pub early_number : Result ℕ Number → ℕ
+early_number (Ok lacks) = 0
+early_number (Err number) = error_number number

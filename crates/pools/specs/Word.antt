@@ -1,8 +1,23 @@
 -- What a look tells, as one number. The low 16 bits are the number that the call answers with; above them, where it is 0, what the lists lack of their shares, and else 16 bits each, the list and the position of its place.
-use Rattle.std.specs.Prelude.{◌≢◌, cond, ℕ, ◌/◌, ◌%◌, ◌<◌, eqb}
+use Rattle.std.specs.Prelude.{◌≢◌, cond, ℕ, ◌/◌, ◌%◌, ◌<◌, eqb, Option, Some, None, Result, Ok, Err}
+use Rattle.books.specs.declared.Number.{Number}
+use Rattle.books.specs.declared.Refused.{Refused}
+use Rattle.books.specs.Errors.{number_from}
 use Rattle.books.specs.Place.{refusal_of}
-use Rattle.shapes.specs.declared.Looked.{Looked}
+use Rattle.shapes.specs.Records.{Looked}
 use Rattle.shapes.specs.Faults.{no_fault, looked_fine, refused_by}
+
+-- ---- as the code's Result
+
+-- what stands above the number, where it is one and where it is none
+abbrev pub told_as : ℕ → Option Number → Result ℕ Refused
+told_as above (Some number) = Err (record { number = number; list = above % 65536; position = above / 65536 % 65536 })
+told_as above None = Ok above
+
+abbrev pub told_in : ℕ → Result ℕ Refused
+told_in word = told_as (word / 65536) (number_from (word % 65536))
+
+-- ---- as the definitions' record
 
 -- 0, and what the check found in a sound pool
 abbrev pub fine : ℕ → Looked

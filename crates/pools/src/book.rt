@@ -1,42 +1,36 @@
 // Does the book keep the book rules? It is read from the words where they lie.
-ghost use Rattle.std.specs.Prelude.{◌≡◌, ◌&&◌, ◌≤◌, ◌<◌, eqb, take, drop};
+ghost use Rattle.std.specs.Prelude.{◌≡◌, ◌&&◌, ◌-◌, ◌≤◌, eqb, take, drop};
+ghost use Rattle.std.specs.List.{list_all, range_with_len};
 ghost use Rattle.books.specs.Book.{eight};
 ghost use Rattle.books.specs.Test.{is_fair, is_zero, gather, all_zero, keeps_rules};
 ghost use Rattle.books.specs.Words.{entry_from, entries_from, book_from};
 
-use crate::words::{head_at, length_at, limit_at, share_at, tail_at};
-use books::Words;
+use crate::words::{entry_at, lists_of};
+use books::{Entry, Words};
 
 // In a pool of so many slots. One list is asked apart: its share is the sum, and the seven entries after it are gathered without a test
 // of each.
 pub(crate) fn keeps_rules(words: &Words, size: usize) -> bool
     ensures { result ≡ keeps_rules size (eight (book_from words.now)) }
 {
-    let lists = crate::words::lists_of(words);
-    if lists == 1 {
+    let count = usize::from(lists_of(words));
+    if count == 1 {
         return keeps_one(words, size);
     }
-    if lists == 0 {
+    if count == 0 || 8 < count {
         return false;
     }
-    if 8 < lists {
-        return false;
-    }
-    let count = lists as usize;
-    if !shares_fit(words, count, size) {
-        return false;
-    }
-    rest_zero(words, count)
+    shares_fit(words, count, size) && rest_zero(words, count)
 }
 
 // Is a list's share within its limit, and its limit within the pool?
-fn is_fair(words: &Words, list: usize, size: usize) -> bool
-    requires { list < 8 }
-    ensures { result ≡ is_fair size (entry_from words.now list) }
+#[tactic(auto, unfolding(books::specs::Test::is_fair))]
+fn is_fair(entry: Entry, size: usize) -> bool
+    ensures { result ≡ is_fair size entry }
 {
-    let limit = limit_at(words, list);
-    if share_at(words, list) <= limit {
-        return rules::wide(limit) < size;
+    // Two branches: of both tests joined the compiler makes one number first, which costs more in each list.
+    if entry.share <= entry.limit {
+        return usize::from(entry.limit) < size;
     }
     false
 }
@@ -47,66 +41,52 @@ fn shares_fit(words: &Words, count: usize, size: usize) -> bool
     ensures { result ≡ gather size (take count (entries_from words.now)) 0 }
 {
     let mut sum: usize = 0;
-    let mut k: usize = 0;
-    while k < count {
-        if !is_fair(words, k, size) {
+    for k in 0..count {
+        let entry = entry_at(words, k);
+        if !is_fair(entry, size) {
             return false;
         }
-        sum += rules::wide(share_at(words, k));
-        k += 1;
+        sum += usize::from(entry.share);
     }
     sum < size
 }
 
 // The five words of an entry are gathered into one, so that the compiler reads several at once. It is 0 where they all are.
-fn bits_of(words: &Words, list: usize) -> u16
-    requires { list < 8 }
-    ensures { eqb result 0 ≡ is_zero (entry_from words.now list) }
+fn bits_of(entry: Entry) -> u16
+    ensures { eqb result 0 ≡ is_zero entry }
 {
-    let ends = head_at(words, list) | tail_at(words, list);
-    ends | share_at(words, list) | limit_at(words, list) | length_at(words, list)
+    entry.head | entry.tail | entry.share | entry.limit | entry.length
 }
 
 // The four words before the length lie in one number of 64 bits, and are asked as one.
-fn is_zero(words: &Words, list: usize) -> bool
-    requires { list < 8 }
-    ensures { result ≡ is_zero (entry_from words.now list) }
+fn is_zero(entry: Entry) -> bool
+    ensures { result ≡ is_zero entry }
 {
-    let ends = head_at(words, list) | tail_at(words, list);
-    let four = ends | share_at(words, list) | limit_at(words, list);
+    let four = entry.head | entry.tail | entry.share | entry.limit;
     if four != 0 {
         return false;
     }
-    length_at(words, list) == 0
+    entry.length == 0
 }
 
 // Are all entries from `from` on zero?
 fn rest_zero(words: &Words, from: usize) -> bool
     requires { from ≤ 8 }
-    ensures { result ≡ all_zero (drop from (entries_from words.now)) }
+    ensures { result ≡ list_all (λ k. is_zero (entry_from words.now k)) (range_with_len from (8 - from)) }
 {
-    let mut k = from;
-    while k < 8 {
-        if !is_zero(words, k) {
-            return false;
-        }
-        k += 1;
-    }
-    true
+    (from..8).all(|k| is_zero(entry_at(words, k)))
 }
 
 // The rules of a book of one list.
 fn keeps_one(words: &Words, size: usize) -> bool
     ensures { result ≡ (is_fair size (entry_from words.now 0) && all_zero (drop 1 (entries_from words.now))) }
 {
-    if !is_fair(words, 0, size) {
+    if !is_fair(entry_at(words, 0), size) {
         return false;
     }
     let mut bits: u16 = 0;
-    let mut list: usize = 1;
-    while list < 8 {
-        bits = bits | bits_of(words, list);
-        list += 1;
+    for list in 1..8 {
+        bits |= bits_of(entry_at(words, list));
     }
     bits == 0
 }

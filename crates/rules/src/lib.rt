@@ -12,18 +12,13 @@ use books::Book;
 pub fn size_fits(size: usize) -> bool
     ensures { result ≡ size_fits size }
 {
-    if size < 2 {
-        return false;
-    }
-    if Book::LARGEST < size {
-        return false;
-    }
-    true
+    (2..=Book::LARGEST).contains(&size)
 }
 
-// A 16-bit number as an index.
+// A 16-bit number as an index. The code says `usize::from` itself; this stays for what speaks of it, the edit `index_halved` and G6 of
+// docs/CONTRACTS.md.
 pub fn wide(x: u16) -> usize
     ensures { (result ≡ x) × (result < 65536) }
 {
-    x as usize
+    usize::from(x)
 }

@@ -14,3 +14,4 @@ pub mod Changes
 pub mod Ledger
 pub mod Quick
 pub mod Sides
+pub mod Said

@@ -10,7 +10,7 @@ use Rattle.books.specs.declared.Entry.{Entry}
 use Rattle.books.specs.Book.{wipe_word}
 use Rattle.books.specs.Place.{no_place}
 use Rattle.shapes.specs.declared.End.TheVariants.{Front, Back}
-use Rattle.shapes.specs.declared.Gathered.{Gathered}
+use Rattle.shapes.specs.Records.{Gathered}
 use Rattle.shapes.specs.Ends.{joined, contents, from_end, end_slot}
 use Rattle.shapes.specs.Counts.{word_up, word_down, word_sum}
 use Rattle.shapes.specs.Shape.{lacks, stored_lacks}

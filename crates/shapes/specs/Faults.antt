@@ -1,14 +1,16 @@
 -- The faults of a pool as the check gathers them, in the order of 02 b)'s rules 11 to 15 and of 02 c)'s 16: what runs once the walks are made.
-use Rattle.std.specs.Prelude.{Bool, cond, not, ◌&&◌, List, ℕ, zero, suc, ◌+◌, ◌-◌, ltb, leb, eqb, length, replicate}
+use Rattle.std.specs.Prelude.{Bool, cond, not, ◌&&◌, List, ℕ, zero, suc, ◌+◌, ◌-◌, ltb, leb, eqb, length, replicate, Result, Ok, Err}
 use Rattle.books.specs.declared.Entry.{Entry}
 use Rattle.books.specs.Place.{Place, no_place, refusal_of, numbered}
 use Rattle.books.specs.declared.Refusal.{Refusal}
+use Rattle.books.specs.declared.Refused.{Refused}
+use Rattle.books.specs.Errors.{refusal_by}
 use Rattle.books.specs.Book.{null_slot}
 use Rattle.shapes.specs.Met.{is_met_of}
-use Rattle.shapes.specs.declared.Fault.{Fault}
-use Rattle.shapes.specs.declared.Gathered.{Gathered}
-use Rattle.shapes.specs.declared.Found.{Found}
-use Rattle.shapes.specs.declared.Looked.{Looked}
+use Rattle.shapes.specs.Records.{Fault}
+use Rattle.shapes.specs.Records.{Gathered}
+use Rattle.shapes.specs.Records.{Found}
+use Rattle.shapes.specs.Records.{Looked}
 
 abbrev pub fault : ℕ → ℕ → ℕ → Fault
 fault rule list place = record { rule = rule; list = list; place = place }
@@ -104,3 +106,8 @@ refused_by refusal = record { refusal = refusal; found = faulty no_fault }
 -- no refusal, and what the check found
 abbrev pub looked_fine : Found → Looked
 looked_fine found = record { refusal = numbered 0; found = found }
+
+-- how the code says it: what the lists lack of their shares, where the check finds no fault, or why the call is refused
+abbrev pub looked_by : Result ℕ Refused → Looked
+looked_by (Ok lacks) = looked_fine (record { fault = no_fault; lacks = lacks })
+looked_by (Err refused) = refused_by (refusal_by refused)

@@ -1,4 +1,5 @@
 -- What is true of no engine in particular: sequences of slots and what they amount to, the ends of a list, the stored counts, numbers and their order, the record of slots met, walks, faults, setup, moves, what the quick calls ask, and the ledger.
+pub mod Records
 pub mod Shape
 pub mod Ends
 pub mod Counts

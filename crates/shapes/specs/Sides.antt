@@ -2,7 +2,7 @@
 use Rattle.std.specs.Prelude.{Bool, true, false, ◌&&◌, List, [], ◌∷◌, ◌++◌, map, ℕ, ◌+◌, eqb, set, replicate}
 use Rattle.books.specs.Tried.{word_bits, value_bits, all_bits, same_numbers, same_answer, entry}
 use Rattle.chains.specs.Chain.{cell}
-use Rattle.shapes.specs.declared.Fault.{Fault}
+use Rattle.shapes.specs.Records.{Fault}
 use Rattle.shapes.specs.Numbers.{first_that}
 use Rattle.shapes.specs.Tests.{push_own_tests, pop_own_tests, read_own_tests}
 use Rattle.shapes.specs.Walk.{Path, walk_from, unwiped_from}

@@ -11,7 +11,7 @@ use Rattle.books.specs.Book.{entry_at, AnyBook, eight, book_of, words_of}
 use Rattle.books.specs.Words.{book_from}
 use Rattle.books.specs.Outcome.{outcome}
 use Rattle.shapes.specs.declared.End.{End}
-use Rattle.shapes.specs.declared.ListChange.{ListChange}
+use Rattle.shapes.specs.Records.{ListChange}
 use Rattle.shapes.specs.Shape.{stored_lacks}
 use Rattle.shapes.specs.Changes.{with_list}
 use Rattle.shapes.specs.Numbers.{first_that}

@@ -1,5 +1,5 @@
 -- What each call on a list answers at each of its returns, told from what the functions that it calls promise.
-use Rattle.std.specs.Prelude.{◌≡◌, ℕ, ◌<◌, cond, ◌&&◌, eqb, leb, ◌≢◌, List, [], length, take}
+use Rattle.std.specs.Prelude.{◌≡◌, ℕ, ◌<◌, ◌≢◌, List, [], length, take}
 use mathlib.Core.Path.{refl, sym, ap, ◌∙◌}
 use native.Mathlib.Omega.{arith}
 use Rattle.books.specs.declared.Book.{Book}
@@ -9,26 +9,25 @@ use Rattle.books.specs.declared.Length.{Length}
 use Rattle.books.specs.declared.Read.{Read}
 use Rattle.books.specs.Place.{Place, refusal_of, numbered}
 use Rattle.books.specs.declared.Refusal.{Refusal}
-use Rattle.books.specs.Book.{entry_at, AnyBook, eight, book_of, words_of}
+use Rattle.books.specs.Book.{entry_at, AnyBook, book_of, words_of}
 use Rattle.books.specs.Words.{book_from}
 use Rattle.books.proofs.Flat.{book_kept}
 use Rattle.books.specs.Outcome.{outcome}
 use Rattle.shapes.specs.declared.End.{End}
-use Rattle.shapes.specs.declared.ListChange.{ListChange}
+use Rattle.shapes.specs.Records.{ListChange}
 use Rattle.shapes.specs.Shape.{stored_lacks}
-use Rattle.shapes.specs.declared.Looked.{Looked}
+use Rattle.shapes.specs.Records.{Looked}
 use Rattle.shapes.specs.Ends.{near_of}
 use Rattle.shapes.specs.Changes.{with_list}
 use Rattle.shapes.specs.Faults.{answering}
 use Rattle.shapes.specs.Numbers.{Test, first_that}
 use Rattle.shapes.specs.Tests.{push_own_tests, pop_own_tests, read_own_tests, read_left, read_of}
 use Rattle.engines.specs.Engine.{Step}
-use Rattle.engines.specs.Check.{look_of}
 use Rattle.engines.specs.Reads.{count_read, buffer_after}
 use Rattle.engines.specs.Calls.{found_of, not_called, stepped, on_list_of, length_call, push_call, pop_call, clear_call, read_call}
 use Rattle.engines.specs.OnList.{OnList, on_list, push_on, pop_on, put_back}
 use Rattle.engines.proofs.OnList.{push_on_list, pop_on_list}
-use Rattle.engines.proofs.Looking.{on_list_place, own_place, on_list_found, on_list_below, read_count, by_list, by_call, goes}
+use Rattle.engines.proofs.Looking.{on_list_place, own_place, on_list_found, read_count, by_list, by_call, goes}
 use Rattle.xor.specs.Along.{clear_on_list}
 use Rattle.xor.specs.Engine.{xor}
 use Rattle.xor.specs.Ten.{as_answer, as_popped}
@@ -38,17 +37,6 @@ use Rattle.xor.proofs.Lawful.{xor_lawful}
 -- the book that its words are
 pub words_book : {words : List ℕ} (book : Book) → length book.entries ≡ 8 → words ≡ words_of book → book_from words ≡ book
 words_book book h w = ap book_from w ∙ book_kept book h
-
--- a look at the words of a book is a look at the book
-pub look_of_words : (links values : List ℕ) {words : List ℕ} (book : Book) {seen : Looked} → length book.entries ≡ 8 → words ≡ words_of book
-    → seen ≡ look_of xor links values (eight (book_from words)) → seen ≡ look_of xor links values (eight book)
-look_of_words links values book h w e =
-    e ∙ ap (λ (b : Book). look_of xor links values (eight b)) (words_book book h w)
-
--- the test of the list's number, with how many lists there are read from the words
-pub early_in_words : (refusal : Refusal) (l : ℕ) {early : Refusal} {lists lists' : ℕ} → lists ≡ lists' → early ≡ cond (eqb refusal.number 0 && leb lists l) (numbered 4) refusal
-    → early ≡ cond (eqb refusal.number 0 && leb lists' l) (numbered 4) refusal
-early_in_words refusal l e n = rw e at n
 
 -- the answer of a call that changes the book, and of a pop
 abbrev answer : Refusal → Book → Answer
@@ -107,10 +95,6 @@ module _ (links values : List ℕ) (b : AnyBook) (l : ℕ) (seen : Looked) (e : 
 
     found : seen.found ≡ found_of xor links values b
     found = ap (λ (r : Looked). r.found) e ∙ on_list_found xor links values b l passes
-
-    -- the list has a place in the book
-    pub inside : {k : ℕ} → k ≡ l → k < b.places
-    inside p = omega (arith, p, (on_list_below xor links values b l xor_lawful passes).0)
 
     -- the length is the book's own
     pub length_went : {n : ℕ} → n ≡ many → ◌≡◌ {A = Length} (record { refusal = numbered 0; length = n }) (length_call xor links values b l)

@@ -1,6 +1,7 @@
 // Layer 4: the ten calls, and the four quick ones. Setup makes a sound pool, and the others work on it.
 #![tactic(auto)]
 
+mod answers;
 pub mod check;
 pub mod clear;
 mod counted;

@@ -3,7 +3,8 @@ use mathlib.Core.Path.{◌≡◌, refl, sym, ap, ◌∙◌}
 use mathlib.Core.Logic.{◌≢◌, ◌⊎◌, inl, inr}
 use mathlib.Core.Bool.{true, false, not, ◌&&◌}
 use mathlib.Core.List.{List, [], ◌∷◌, ◌++◌, append_assoc, append-nil}
-use Prim.Native.Nat.{ℕ, zero, suc, ◌+◌, ◌-◌, ◌≤◌, ◌<◌}
+use Prim.Native.Nat.{ℕ, zero, suc, ◌+◌, ◌-◌, ◌≤◌, ◌<◌, min}
+use native.Mathlib.Decide.{dec_le}
 use native.Mathlib.Nat.{sub-zero, le_of_eq}
 use native.Mathlib.Numerals.{add-one}
 use native.Mathlib.Omega.{arith}
@@ -49,6 +50,13 @@ module _ (links values : List ℕ) (before slot : ℕ) where
 
 abbrev pub Lesser : ℕ → List ℕ → List ℕ → Type 0
 Lesser size links values = (size ≤ length links) × (size ≤ length values) × ((size ≡ length links) ⊎ (size ≡ length values))
+
+pub lesser : (links values : List ℕ) {size : ℕ} → size ≡ min (length links) (length values) → Lesser size links values
+lesser links values {size} e = go (dec_le (length links) (length values))
+  where
+    go : Dec (length links ≤ length values) → Lesser size links values
+    go (yes p) = (omega arith, omega arith, inl (omega arith))
+    go (no d) = (omega arith, omega arith, inr (omega arith))
 
 module _ (links values : List ℕ) {size : ℕ} (lesser : Lesser size links values) (slot : ℕ) where
   pub small_slot : is_slot size size slot ≡ true → InPool links values slot

@@ -1,7 +1,6 @@
 // The walk along the idle chain: each slot that it passes is marked, and the lowest one that is not wiped is gathered.
-ghost use Rattle.std.specs.Prelude.{◌≡◌, false, not, [], ◌∷◌};
+ghost use Rattle.std.specs.Prelude.{◌≡◌, false, not, [], ◌∷◌, get_or};
 ghost use Rattle.books.specs.Book.{null_slot};
-ghost use Rattle.chains.specs.Chain.{cell};
 ghost use Rattle.shapes.specs.Met.{is_met_of, unmarked, HasPlace};
 ghost use Rattle.shapes.specs.Walk.{unwiped_from};
 ghost use Rattle.walks.specs.Idle.{idle_first};
@@ -18,21 +17,18 @@ use shapes::IdleWalk;
 pub(crate) fn walk_idle(links: &[u16], values: &[u64], met: &mut [u8], free: Free) -> IdleWalk
     ensures { IdleWalked xor links.now values.now met.old free result met.new }
 {
-    if links.len() != values.len() {
+    if links.len() != values.len() || !crate::met::walkable(links, met) {
         return refused();
     }
-    if !crate::met::walkable(links, met) {
-        return refused();
-    }
-    crate::met::mark_null(met);
-    let mut slot = rules::wide(free.head);
+    crate::met::mark(met, 0);
+    let mut slot = usize::from(free.head);
     let mut length: usize = 0;
     let mut unlike: u64 = 0;
     while !crate::met::is_met(met, slot) {
         crate::met::mark(met, slot);
-        unlike = unlike | (values[slot] ^ Book::WIPE);
+        unlike |= values[slot] ^ Book::WIPE;
         length += 1;
-        slot = rules::wide(links[slot]);
+        slot = usize::from(links[slot]);
     }
     ended(links, values, met, free, slot, length, unlike)
 }
@@ -85,49 +81,29 @@ fn lowest_unwiped(links: &[u16], values: &[u64], free: Free, many: usize) -> u16
 {
     let mut slot = free.head;
     let mut least = Book::NULL;
-    let mut left = many;
-    while 0 < left {
+    for _ in 0..many {
         least = gather(values, slot, least);
-        slot = link_of(links, slot);
-        left -= 1;
+        slot = cell_or(links, slot, 0);
     }
     least
 }
 
-// The lower of the slot and `least`, which is 0 for none, where the slot's value is not the wipe word; else `least`.
+// The lower of the slot and `least`, where the slot's value is not the wipe word; else `least`. 0 is none and no `Option`, as
+// `IdleWalked` and `unwiped_from` have it.
 fn gather(values: &[u64], slot: u16, least: u16) -> u16
     ensures { result ≡ unwiped_from values.now (slot ∷ []) least }
 {
-    if value_of(values, slot) == Book::WIPE {
-        return least;
+    let passed = least != Book::NULL && least <= slot;
+    if passed || cell_or(values, slot, 0) == Book::WIPE {
+        least
+    } else {
+        slot
     }
-    if least == Book::NULL {
-        return slot;
-    }
-    if slot < least {
-        return slot;
-    }
-    least
 }
 
-// The slot's value, or 0 past the end.
-fn value_of(values: &[u64], slot: u16) -> u64
-    ensures { result ≡ cell values.now slot }
+// The slot's cell, or `none` past the end.
+fn cell_or<T: Copy>(cells: &[T], slot: u16, none: T) -> T
+    ensures { result ≡ get_or cells.now slot none }
 {
-    let i = rules::wide(slot);
-    if i < values.len() {
-        return values[i];
-    }
-    0
-}
-
-// The slot's link, or 0 past the end.
-fn link_of(links: &[u16], slot: u16) -> u16
-    ensures { result ≡ cell links.now slot }
-{
-    let i = rules::wide(slot);
-    if i < links.len() {
-        return links[i];
-    }
-    0
+    cells.get(usize::from(slot)).copied().unwrap_or(none)
 }

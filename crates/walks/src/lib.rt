@@ -6,15 +6,3 @@ mod idle;
 mod met;
 pub mod reads;
 pub mod walk;
-
-ghost use Rattle.std.specs.Prelude.{◌≡◌, ◌⊎◌, ◌≤◌};
-
-// The lesser of the two.
-fn least(a: usize, b: usize) -> usize
-    ensures { (result ≤ a) × (result ≤ b) × ((result ≡ a) ⊎ (result ≡ b)) }
-{
-    if a < b {
-        return a;
-    }
-    b
-}

@@ -8,13 +8,11 @@ ghost use Rattle.shapes.specs.Walk.{walkable};
 pub(crate) fn is_met(met: &[u8], slot: usize) -> bool
     ensures { result ≡ is_met_of met.now slot }
 {
-    if slot < met.len() {
-        return met[slot] != 0;
-    }
-    true
+    met.len() <= slot || met[slot] != 0
 }
 
-// The slot is met from now on.
+// The slot is met from now on. The null slot is too, while a walk goes.
+#[tactic(auto, unfolding(shapes::specs::Met::mark_of))]
 pub(crate) fn mark(met: &mut [u8], slot: usize)
     requires { HasPlace met.old slot }
     ensures { met.new ≡ mark_of met.old slot }
@@ -22,15 +20,7 @@ pub(crate) fn mark(met: &mut [u8], slot: usize)
     met[slot] = 1;
 }
 
-// The null slot is marked while a walk goes.
-pub(crate) fn mark_null(met: &mut [u8])
-    requires { HasPlace met.old null_slot }
-    ensures { met.new ≡ mark_of met.old null_slot }
-{
-    met[0] = 1;
-}
-
-// Its mark is taken away when the walk has ended.
+// The null slot's mark is taken away when the walk has ended.
 pub(crate) fn unmark_null(met: &mut [u8])
     requires { HasPlace met.old null_slot }
     ensures { met.new ≡ unmarked met.old }
@@ -39,11 +29,9 @@ pub(crate) fn unmark_null(met: &mut [u8])
 }
 
 // May a walk go over the record? It has a place for each link then, and the null slot is not met.
+#[tactic(auto, unfolding(shapes::specs::Walk::walkable))]
 pub(crate) fn walkable(links: &[u16], met: &[u8]) -> bool
     ensures { result ≡ walkable (length links.now) met.now }
 {
-    if links.len() == met.len() {
-        return !is_met(met, 0);
-    }
-    false
+    links.len() == met.len() && !is_met(met, 0)
 }

@@ -23,12 +23,13 @@ pub fn read(links: &[u16], values: &[u64], start: u16, buffer: &mut [u64], at: u
 }
 
 // The same from the first place of `out` on. Two values are copied in a turn, so that the slot and the one before it change places and
-// nothing is moved, and the room is tested once for both; a last place is filled after the loop.
+// nothing is moved, and the room is tested once for both; a last place is filled after the loop. Chunks of two places would be no plainer:
+// how many were copied is answered from within a turn, so they are counted in any case.
 fn fill(links: &[u16], values: &[u64], start: u16, out: &mut [u64]) -> usize
     ensures { Filled (values_along (xor.onward End.Front links.now) (length links.now) values.now (length out.old) null_slot start) out.old result out.new }
 {
-    let size = crate::least(links.len(), values.len());
-    let mut slot = rules::wide(start);
+    let size = links.len().min(values.len());
+    let mut slot = usize::from(start);
     let mut previous: usize = 0;
     let mut count: usize = 0;
     while count + 1 < out.len() {
@@ -53,13 +54,11 @@ fn fill(links: &[u16], values: &[u64], start: u16, out: &mut [u64]) -> usize
 }
 
 // Is the number a slot of a pool with so many links and values?
+#[tactic(auto, unfolding(engines::specs::Reads::is_slot))]
 fn is_slot(slot: usize, size: usize) -> bool
     ensures { result ≡ is_slot size size slot }
 {
-    if slot == 0 {
-        return false;
-    }
-    slot < size
+    slot != 0 && slot < size
 }
 
 // The slot's value is copied to a place, and the slot after it is its link XORed with the one before it.
@@ -75,5 +74,5 @@ fn copy_value(
     ensures { (result ≡ bit_xor (cell links.now slot) before) × (out.new ≡ set out.old place (cell values.now slot)) }
 {
     out[place] = values[slot];
-    rules::wide(links[slot]) ^ before
+    usize::from(links[slot]) ^ before
 }

@@ -19,7 +19,7 @@ use Rattle.chains.specs.Chain.{cell, first_or}
 use Rattle.chains.proofs.Count.{hit_same, count-append}
 use Rattle.chains.proofs.Chain.{linked_iff}
 use Rattle.shapes.specs.declared.End.TheVariants.{Front}
-use Rattle.shapes.specs.declared.PopStep.{PopStep}
+use Rattle.shapes.specs.Records.{PopStep}
 use Rattle.shapes.specs.Shape.{chain_at}
 use Rattle.shapes.specs.Ends.{near_of, with_near, emptied}
 use Rattle.shapes.specs.Counts.{with_length, with_count, word_sum}

@@ -11,7 +11,7 @@ use Rattle.books.specs.declared.Book.{Book}
 use Rattle.books.specs.Book.{eight}
 use Rattle.books.specs.Rules.{Size, BookRules}
 use Rattle.books.proofs.Tests.{not_both}
-use Rattle.shapes.specs.declared.Fault.{Fault}
+use Rattle.shapes.specs.Records.{Fault}
 use Rattle.shapes.specs.Shape.{Shape}
 use Rattle.shapes.specs.Faults.{fault}
 use Rattle.engines.specs.Sound.{Fit}

@@ -13,7 +13,7 @@ use Rattle.books.specs.declared.Refusal.{Refusal}
 use Rattle.books.specs.Book.{zero_entry, most_lists, book_of, eight, AnyBook}
 use Rattle.books.specs.Test.{is_fair, is_zero, gather, all_zero, keeps_rules}
 use Rattle.books.proofs.Tests.{and_both}
-use Rattle.shapes.specs.declared.Fault.{Fault}
+use Rattle.shapes.specs.Records.{Fault}
 use Rattle.shapes.specs.Met.{is_met_of, mark_of, unmet}
 use Rattle.shapes.specs.Walk.{walk_on, walkable}
 use Rattle.shapes.specs.Faults.{fault, nothing_met, count_fault, spare_fault, idle_fault}

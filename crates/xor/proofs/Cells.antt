@@ -8,8 +8,8 @@ use Rattle.books.specs.declared.Entry.{Entry}
 use Rattle.books.specs.Book.{entry_at, AnyBook}
 use Rattle.books.specs.Outcome.{Outcome, outcome}
 use Rattle.shapes.specs.declared.End.{End}
-use Rattle.shapes.specs.declared.PushStep.{PushStep}
-use Rattle.shapes.specs.declared.PopStep.{PopStep}
+use Rattle.shapes.specs.Records.{PushStep}
+use Rattle.shapes.specs.Records.{PopStep}
 use Rattle.shapes.specs.Shape.{Shape, chain_at}
 use Rattle.shapes.proofs.Numbers.{decided_ind}
 use Rattle.engines.specs.Sound.{SoundBook, Held}

@@ -16,8 +16,8 @@ use Rattle.chains.proofs.Count.{count-append, count-reverse, count_first}
 use Rattle.chains.proofs.Chain.{first-reverse, last-reverse, live-reverse}
 use Rattle.shapes.specs.declared.End.{End}
 use Rattle.shapes.specs.declared.End.TheVariants.{Front, Back}
-use Rattle.shapes.specs.declared.PushStep.{PushStep}
-use Rattle.shapes.specs.declared.PopStep.{PopStep}
+use Rattle.shapes.specs.Records.{PushStep}
+use Rattle.shapes.specs.Records.{PopStep}
 use Rattle.shapes.specs.Ends.{new_of, near_of, with_near, joined, contents}
 use Rattle.xor.specs.Steps.{push_empty_of, push_of, pop_of}
 use Rattle.xor.specs.StepDone.{Apart, CellsHold, CellsJoin, CellsLeave}

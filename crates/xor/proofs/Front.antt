@@ -22,8 +22,8 @@ use Rattle.xor.specs.Slot.{InPool}
 use Rattle.xor.specs.Slots.{release_of}
 use Rattle.xor.proofs.Slots.{release_wipes}
 use Rattle.shapes.specs.declared.End.TheVariants.{Front}
-use Rattle.shapes.specs.declared.PushStep.{PushStep}
-use Rattle.shapes.specs.declared.PopStep.{PopStep}
+use Rattle.shapes.specs.Records.{PushStep}
+use Rattle.shapes.specs.Records.{PopStep}
 use Rattle.shapes.specs.Ends.{near_of, with_near}
 use Rattle.xor.specs.StepDone.{CellsHold, CellsJoin, CellsLeave}
 use Rattle.xor.proofs.Ways.{one_apart, two_apart, PushWay, PopWay}

@@ -22,8 +22,8 @@ use Rattle.chains.proofs.Chain.{Chain, linked_iff, linked_frame, live-reverse}
 use Rattle.chains.proofs.Xor.{xor_cancel_l, xor_cancel_out}
 use Rattle.shapes.specs.declared.End.{End}
 use Rattle.shapes.specs.declared.End.TheVariants.{Front, Back}
-use Rattle.shapes.specs.declared.PushStep.{PushStep}
-use Rattle.shapes.specs.declared.PopStep.{PopStep}
+use Rattle.shapes.specs.Records.{PushStep}
+use Rattle.shapes.specs.Records.{PopStep}
 use Rattle.shapes.specs.Shape.{Shape, chain_at, joined_up}
 use Rattle.shapes.specs.Ends.{near_of, joined, end_slot}
 use Rattle.shapes.specs.Walk.{Tied}

@@ -12,18 +12,17 @@ use Rattle.books.specs.declared.Popped.{Popped}
 use Rattle.books.specs.declared.Length.{Length}
 use Rattle.books.specs.declared.Read.{Read}
 use Rattle.books.specs.declared.Free.{Free}
-use Rattle.shapes.specs.declared.Taken.{Taken}
-use Rattle.shapes.specs.declared.Taken.TheVariants.{Slot, Nothing}
+use Rattle.std.specs.Prelude.{Option, Some, None}
 use Rattle.xor.specs.Slots.{Said, said_by}
 use Rattle.xor.specs.Ten.{setup_of, check_of, length_of, push_back_of, push_front_of, pop_back_of, pop_front_of, read_forward_of, read_backward_of, clear_of}
 use Rattle.shapes.specs.Tests.{ReadLeft, read_left}
 
--- the slot layer's answer is an enum: what it says leaves no choice between its cases
-pub taken_one : (free : Free) {o : Said} (r r' : Taken) → said_by free r ≡ o → said_by free r' ≡ o → r ≡ r'
-taken_one free (Slot slot rest) (Slot slot' rest') e f = let g = one_answer e f in λ i. Slot (g i).slot (g i).free
-taken_one free (Slot slot rest) Nothing e f = absurd (true≢false (ap (λ (x : Said). x.done) (one_answer e f)))
-taken_one free Nothing (Slot slot rest) e f = absurd (true≢false (ap (λ (x : Said). x.done) (one_answer f e)))
-taken_one free Nothing Nothing e f = refl
+-- the slot layer answers with an `Option`: what it says leaves no choice between its cases
+pub taken_one : (free : Free) {o : Said} (r r' : Option (ℕ × Free)) → said_by free r ≡ o → said_by free r' ≡ o → r ≡ r'
+taken_one free (Some (slot, rest)) (Some (slot', rest')) e f = let g = one_answer e f in λ i. Some ((g i).slot, (g i).free)
+taken_one free (Some (slot, rest)) None e f = absurd (true≢false (ap (λ (x : Said). x.done) (one_answer e f)))
+taken_one free None (Some (slot, rest)) e f = absurd (true≢false (ap (λ (x : Said). x.done) (one_answer f e)))
+taken_one free None None e f = refl
 
 -- a read's answer with the buffer
 pub one_read : {o : ReadLeft} {r r' : Read} {buffer buffer' : List ℕ} → read_left r buffer ≡ o → read_left r' buffer' ≡ o → (r ≡ r') × (buffer ≡ buffer')

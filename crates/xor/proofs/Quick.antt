@@ -17,8 +17,8 @@ use Rattle.books.proofs.Tests.{not_both}
 use Rattle.chains.specs.Count.{count}
 use Rattle.chains.specs.Chain.{cell}
 use Rattle.shapes.specs.declared.End.{End}
-use Rattle.shapes.specs.declared.PushStep.{PushStep}
-use Rattle.shapes.specs.declared.PopStep.{PopStep}
+use Rattle.shapes.specs.Records.{PushStep}
+use Rattle.shapes.specs.Records.{PopStep}
 use Rattle.shapes.specs.Counts.{with_length, with_count}
 use Rattle.shapes.specs.Changes.{with_list, OtherEntries}
 use Rattle.shapes.specs.Numbers.{Given}

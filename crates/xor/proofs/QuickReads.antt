@@ -17,8 +17,8 @@ use Rattle.chains.specs.Count.{count}
 use Rattle.chains.specs.Chain.{cell}
 use Rattle.chains.proofs.Count.{hit_same}
 use Rattle.shapes.specs.declared.End.{End}
-use Rattle.shapes.specs.declared.PushStep.{PushStep}
-use Rattle.shapes.specs.declared.PopStep.{PopStep}
+use Rattle.shapes.specs.Records.{PushStep}
+use Rattle.shapes.specs.Records.{PopStep}
 use Rattle.shapes.specs.Ends.{near_of}
 use Rattle.shapes.specs.Counts.{with_length, with_count}
 use Rattle.shapes.specs.Changes.{with_list}

@@ -13,7 +13,7 @@ use Rattle.chains.specs.Chain.{cell, first_or, following, IdleChain}
 use Rattle.chains.proofs.Count.{count_apart, one_other, other_one}
 use Rattle.chains.proofs.Chain.{linked_iff, chain_frame}
 use Rattle.chains.proofs.Ends.{idle_any}
-use Rattle.shapes.specs.declared.Taken.TheVariants.{Slot, Nothing}
+use Rattle.std.specs.Prelude.{Some, None}
 use Rattle.xor.specs.Slot.{InPool, in_pool}
 use Rattle.xor.specs.Slots.{Said, said_by, take_of, release_of}
 use Rattle.xor.specs.SlotDone.{Takes, TakesNone, TakesFirst, Wipes, NotReleased}
@@ -21,11 +21,11 @@ use Rattle.xor.proofs.Slot.{in_pool_lem, not_in_pool}
 
 -- ---- take
 
--- each case of `Taken` says what it holds
-pub said_slot : (free : Free) (s : ℕ) (rest : Free) → ((said_by free (Slot s rest)).done ≡ true) × ((said_by free (Slot s rest)).slot ≡ s) × ((said_by free (Slot s rest)).free ≡ rest)
+-- each case of the code's `Option` says what it holds
+pub said_slot : (free : Free) (s : ℕ) (rest : Free) → ((said_by free (Some (s, rest))).done ≡ true) × ((said_by free (Some (s, rest))).slot ≡ s) × ((said_by free (Some (s, rest))).free ≡ rest)
 said_slot free s rest = (refl, refl, refl)
 
-pub said_none : (free : Free) → TakesNone free (said_by free Nothing)
+pub said_none : (free : Free) → TakesNone free (said_by free None)
 said_none free = record { done = refl; slot = refl; rest = refl }
 
 module _ (links values : List ℕ) (free : Free) where
@@ -50,7 +50,7 @@ module _ (links values : List ℕ) (free : Free) where
       go false e h = not_both (take_of links values free).done h (take_none (not_in_pool links values free.head e)).done
 
   -- a slot that was answered is one, and was the free head
-  pub take-slot : (s : ℕ) (rest : Free) → said_by free (Slot s rest) ≡ take_of links values free
+  pub take-slot : (s : ℕ) (rest : Free) → said_by free (Some (s, rest)) ≡ take_of links values free
       → (s ≡ free.head) × (rest.head ≡ cell links free.head) × InPool links values s
   take-slot s rest h =
       let p = take-exactly.0 (sym (ap (λ a. a.done) h)) in

@@ -22,8 +22,8 @@ use Rattle.xor.specs.SlotDone.{Wipes}
 use Rattle.xor.proofs.Slots.{release_wipes}
 use Rattle.shapes.specs.declared.End.{End}
 use Rattle.shapes.specs.declared.End.TheVariants.{Front, Back}
-use Rattle.shapes.specs.declared.PushStep.{PushStep}
-use Rattle.shapes.specs.declared.PopStep.{PopStep}
+use Rattle.shapes.specs.Records.{PushStep}
+use Rattle.shapes.specs.Records.{PopStep}
 use Rattle.shapes.specs.Ends.{near_of, with_near, opposite}
 use Rattle.shapes.proofs.Ends.{near_set}
 use Rattle.xor.specs.Steps.{push_empty_of, push_of, pop_of}

@@ -20,8 +20,8 @@ use Rattle.xor.specs.Slot.{InPool, in_pool}
 use Rattle.xor.specs.Slots.{take_of}
 use Rattle.xor.proofs.Slot.{in_pool_lem, not_in_pool}
 use Rattle.shapes.specs.declared.End.{End}
-use Rattle.shapes.specs.declared.PushStep.{PushStep}
-use Rattle.shapes.specs.declared.PopStep.{PopStep}
+use Rattle.shapes.specs.Records.{PushStep}
+use Rattle.shapes.specs.Records.{PopStep}
 use Rattle.shapes.specs.Ends.{near_of}
 use Rattle.xor.specs.Steps.{is_beside, not_pushed, pushed_alone, pushed_beside, push_empty_of, push_beside_of, push_of, not_popped, last_leaves, end_leaves, pop_of}
 use Rattle.xor.specs.StepDone.{Apart, unless_null, touched_by_push}

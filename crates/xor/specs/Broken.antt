@@ -7,7 +7,7 @@ use Rattle.books.specs.Book.{null_slot, wipe_word, entry_at, eight}
 use Rattle.books.specs.Rules.{BookRules}
 use Rattle.chains.specs.Count.{count}
 use Rattle.chains.specs.Chain.{cell, first_or, last_or, LiveChain, IdleChain}
-use Rattle.shapes.specs.declared.Fault.{Fault}
+use Rattle.shapes.specs.Records.{Fault}
 use Rattle.shapes.specs.Shape.{Shape, chain_at, every_slot, lacks}
 use Rattle.shapes.specs.Faults.{fault}
 use Rattle.engines.specs.Positions.{Stand, stand_at, Reached, StandsIn}

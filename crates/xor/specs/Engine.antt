@@ -5,8 +5,8 @@ use Rattle.books.specs.Book.{null_slot}
 use Rattle.books.specs.Tabulate.{tabulate}
 use Rattle.chains.specs.Chain.{cell, LiveChain, IdleChain}
 use Rattle.books.specs.Outcome.{Outcome}
-use Rattle.shapes.specs.declared.PushStep.{PushStep}
-use Rattle.shapes.specs.declared.PopStep.{PopStep}
+use Rattle.shapes.specs.Records.{PushStep}
+use Rattle.shapes.specs.Records.{PopStep}
 use Rattle.engines.specs.Engine.{Engine, Step}
 use Rattle.xor.specs.Steps.{push_of, pop_of}
 

@@ -7,8 +7,8 @@ use Rattle.books.specs.Place.{no_place}
 use Rattle.chains.specs.Count.{count}
 use Rattle.chains.specs.Chain.{cell}
 use Rattle.shapes.specs.declared.End.{End}
-use Rattle.shapes.specs.declared.PushStep.{PushStep}
-use Rattle.shapes.specs.declared.PopStep.{PopStep}
+use Rattle.shapes.specs.Records.{PushStep}
+use Rattle.shapes.specs.Records.{PopStep}
 use Rattle.shapes.specs.Ends.{near_of}
 use Rattle.shapes.specs.Changes.{OtherEntries}
 use Rattle.shapes.specs.Numbers.{Condition}

@@ -5,7 +5,7 @@ use Rattle.books.specs.Book.{null_slot, wipe_word}
 use Rattle.books.specs.Outcome.{Outcome}
 use Rattle.chains.specs.Count.{count}
 use Rattle.chains.specs.Chain.{cell, first_or, IdleChain}
-use Rattle.shapes.specs.declared.Released.{Released}
+use Rattle.shapes.specs.Records.{Released}
 use Rattle.xor.specs.Slots.{Said}
 
 -- no cell changes but the links of the slots in `ls` and the values of the slots in `vs`

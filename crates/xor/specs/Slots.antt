@@ -1,12 +1,10 @@
 -- What taking a slot and releasing one give, and what they leave of both slices. The stored count stays: the calls count (02 c).
-use Rattle.std.specs.Prelude.{Bool, true, false, cond, List, ℕ, set}
+use Rattle.std.specs.Prelude.{Bool, true, false, cond, List, ℕ, set, Option, Some, None}
 use Rattle.books.specs.declared.Free.{Free}
 use Rattle.books.specs.Book.{null_slot, wipe_word}
 use Rattle.books.specs.Outcome.{Outcome, outcome}
 use Rattle.chains.specs.Chain.{cell}
-use Rattle.shapes.specs.declared.Taken.{Taken}
-use Rattle.shapes.specs.declared.Taken.TheVariants.{Slot, Nothing}
-use Rattle.shapes.specs.declared.Released.{Released}
+use Rattle.shapes.specs.Records.{Released}
 use Rattle.xor.specs.Slot.{in_pool}
 
 -- 01: "The slot layer answers with a slot or with none": whether a slot was taken, which, and the idle chain then
@@ -15,10 +13,10 @@ pub record Said : Type 0 where
   pub slot : ℕ
   pub free : Free
 
--- what each case of `Taken` says: none is the null slot, with the idle chain as it was
-abbrev pub said_by : Free → Taken → Said
-said_by free (Slot slot rest) = record { done = true; slot = slot; free = rest }
-said_by free Nothing = record { done = false; slot = null_slot; free = free }
+-- what each case of the code's `Option` says: none is the null slot, with the idle chain as it was
+abbrev pub said_by : Free → Option (ℕ × Free) → Said
+said_by free (Some (slot, rest)) = record { done = true; slot = slot; free = rest }
+said_by free None = record { done = false; slot = null_slot; free = free }
 
 -- the slot at the free head, if it is one; its link leads on
 unfoldable pub take_of : List ℕ → List ℕ → Free → Said

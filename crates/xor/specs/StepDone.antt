@@ -10,8 +10,8 @@ use Rattle.chains.specs.Chain.{cell, first_or, last_or, LiveChain, IdleChain}
 use Rattle.xor.specs.Slot.{InPool}
 use Rattle.xor.specs.SlotDone.{Frame}
 use Rattle.shapes.specs.declared.End.{End}
-use Rattle.shapes.specs.declared.PushStep.{PushStep}
-use Rattle.shapes.specs.declared.PopStep.{PopStep}
+use Rattle.shapes.specs.Records.{PushStep}
+use Rattle.shapes.specs.Records.{PopStep}
 use Rattle.shapes.specs.Ends.{near_of, opposite, joined, contents}
 
 -- ---- when a step is done

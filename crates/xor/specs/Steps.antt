@@ -7,11 +7,11 @@ use Rattle.books.specs.Book.{null_slot}
 use Rattle.books.specs.Outcome.{Outcome, outcome}
 use Rattle.chains.specs.Chain.{cell}
 use Rattle.xor.specs.Slot.{in_pool}
-use Rattle.shapes.specs.declared.Released.{Released}
+use Rattle.shapes.specs.Records.{Released}
 use Rattle.xor.specs.Slots.{take_of, release_of}
 use Rattle.shapes.specs.declared.End.{End}
-use Rattle.shapes.specs.declared.PushStep.{PushStep}
-use Rattle.shapes.specs.declared.PopStep.{PopStep}
+use Rattle.shapes.specs.Records.{PushStep}
+use Rattle.shapes.specs.Records.{PopStep}
 use Rattle.shapes.specs.Ends.{near_of, with_near, with_both, emptied}
 
 -- ---- an entry and its ends

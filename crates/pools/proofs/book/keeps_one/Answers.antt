@@ -3,7 +3,7 @@ use mathlib.Core.Path.{◌≡◌, refl, sym, ap, ◌∙◌}
 use mathlib.Core.Bool.{Bool, true, false, ◌&&◌}
 use native.Mathlib.Omega.{arith}
 use lib.Dec.{eqb}
-use Rattle.books.specs.Test.{is_zero}
+use Rattle.books.specs.Test.{is_fair, is_zero}
 use Rattle.books.specs.Words.{entry_from}
 use Rattle.books.proofs.Tests.{or_zero}
 use Rattle.books.proofs.Eight.{zero_adds, zero_past}
@@ -21,20 +21,16 @@ pub loop-list-preserved : goal.loop-list-preserved
 loop-list-preserved c =
     let at = c.loop-list in
     let entries = entry_from c.args.words.now in
-    record {
-      same =
-          rw (or_zero at.bits c.bits_of-bits.result, c.bits_of-bits.ensures)
-          (in_turn (eqb at.bits 0) (is_zero (entries at.list)) _
-          ∙ ap (λ (z : Bool). eqb at.bits 0 && z) (sym (zero_adds entries at.list (omega arith)))
-          ∙ at.invariant.same);
-      within = omega arith;
-    }
+    rw (or_zero at.bits c.bits_of-bits.result, c.bits_of-bits.ensures, c.entry_at-in-loop-list.ensures)
+    (in_turn (eqb at.bits 0) (is_zero (entries at.list)) _
+    ∙ ap (λ (z : Bool). eqb at.bits 0 && z) (sym (zero_adds entries at.list (omega arith)))
+    ∙ at.invariant)
 
 pub returns : goal.returns
 returns c =
     let at = c.loop-list in
     let entries = entry_from c.args.words.now in
-    rw (sym c.is_fair.ensures ∙ c.if-not-is_fair.false)
+    rw (ap (is_fair c.args.size) (sym c.entry_at.ensures) ∙ sym c.is_fair.ensures ∙ c.if-not-is_fair.false)
     (sym (alone (eqb at.bits 0))
     ∙ ap (λ (z : Bool). eqb at.bits 0 && z) (sym (zero_past entries at.list (omega arith)))
-    ∙ at.invariant.same)
+    ∙ at.invariant)

@@ -1,7 +1,6 @@
 -- `pools::book::keeps_one`: at each turn the bits so far and the entries from `list` on are zero exactly where all from 1 on are.
 use mathlib.Core.Path.{◌≡◌}
 use mathlib.Core.Bool.{◌&&◌}
-use Prim.Native.Nat.{◌-◌, ◌≤◌}
 use lib.Dec.{eqb}
 use lib.ListN.{drop}
 use Rattle.books.specs.Test.{all_zero}
@@ -9,11 +8,4 @@ use Rattle.books.specs.Words.{entries_from}
 use Rattle.pools.proofs.book.keeps_one.Given as goal
 
 abbrev pub invariant-loop-list : goal.invariant-loop-list
-invariant-loop-list l =
-    record {
-      same : eqb l.bits 0 && all_zero (drop l.list (entries_from l.words)) ≡ all_zero (drop 1 (entries_from l.words));
-      within : l.list ≤ 8;
-    }
-
-abbrev pub decreases-loop-list : goal.decreases-loop-list
-decreases-loop-list l = 8 - l.list
+invariant-loop-list l = eqb l.bits 0 && all_zero (drop l.list (entries_from l.words)) ≡ all_zero (drop 1 (entries_from l.words))

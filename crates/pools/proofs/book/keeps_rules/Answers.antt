@@ -1,16 +1,21 @@
 -- `pools::book::keeps_rules`: each answer follows from the tests on the way and from what the two loops promise.
 use mathlib.Core.Path.{◌≡◌, refl, sym, ap, ◌∙◌}
+use mathlib.Core.List.{List}
+use mathlib.Core.List.{List}
+use mathlib.Core.Logic.{◌≢◌, ◌⊎◌, inl, inr}
 use mathlib.Core.Bool.{Bool, true, false, ◌&&◌}
-use Prim.Native.Nat.{ℕ, ◌+◌}
+use Prim.Native.Nat.{ℕ, zero, suc, ◌+◌, ◌-◌, ◌≤◌, ◌<◌}
 use native.Mathlib.Omega.{arith}
 use lib.Dec.{leb, ltb}
-use lib.ListN.{length, take, drop}
+use lib.ListN.{length, get_or, take, drop}
 use borrow.Author.Tests.{leb-true, ltb-true, le-leb, lt-leb, lt-ltb}
+use Rattle.std.specs.List.{list_all, range_with_len}
 use Rattle.books.specs.declared.Entry.{Entry}
+use Rattle.books.specs.Book.{eight}
 use Rattle.books.specs.Tabulate.{tabulate}
-use Rattle.books.specs.Test.{is_fair, gather, all_zero, rules_hold, keeps_rules}
-use Rattle.books.specs.Words.{entry_from, entries_from}
-use Rattle.books.proofs.Eight.{fair_adds, fair_past}
+use Rattle.books.specs.Test.{is_fair, is_zero, gather, all_zero, rules_hold, keeps_rules}
+use Rattle.books.specs.Words.{entry_from, entries_from, book_from}
+use Rattle.books.proofs.Eight.{zero_adds, zero_past, fair_adds, fair_past}
 use Rattle.books.proofs.Tabulate.{tabulate-length}
 use Rattle.books.proofs.Flat.{entries_many}
 use Rattle.pools.proofs.book.keeps_rules.Goals as goal
@@ -37,39 +42,39 @@ module _ (f : ℕ → Entry) (size : ℕ) where
   one_list : (lists : ℕ) → lists ≡ 1 → rules_hold size 8 lists (tabulate 8 f) ≡ is_fair size (f 0) && all_zero (drop 1 (tabulate 8 f))
   one_list lists e = rw (e, le-leb 1 (length (tabulate 8 f)) (omega (arith, tabulate-length 8 f))) (ap (λ (z : Bool). z && all_zero (drop 1 (tabulate 8 f))) one_fair)
 
-pub returns-then-lists-eq1 : goal.returns-then-lists-eq1
-unfolding keeps_rules
-returns-then-lists-eq1 c = c.keeps_one.ensures ∙ sym (one_list (entry_from c.args.words.now) c.args.size _ (sym c.lists_of-lists.ensures ∙ c.if-lists-eq1.true))
+-- the entries from one on, asked one by one
+rest : (words : List ℕ) (k n : ℕ) → k + n ≡ 8 → list_all (λ (l : ℕ). is_zero (entry_from words l)) (range_with_len k n) ≡ all_zero (drop k (entries_from words))
+rest words k zero e = sym (zero_past (entry_from words) k (omega arith))
+rest words k (suc n) e = ap (λ (b : Bool). is_zero (entry_from words k) && b) (rest words (k + 1) n (omega arith)) ∙ sym (zero_adds (entry_from words) k (omega arith))
 
-pub returns-then-lists-eq0 : goal.returns-then-lists-eq0
-unfolding keeps_rules
-returns-then-lists-eq0 c = simp (← c.lists_of-lists.ensures, c.if-lists-eq0.true)
+-- a number of lists that no book has
+outside : (size lists count : ℕ) (es : List Entry) → lists ≡ count → (count ≡ 0) ⊎ ((count ≢ 0) × (8 < count)) → false ≡ rules_hold size 8 lists es
+outside size lists count es e (inl z) = rw (e, z)
+outside size lists count es e (inr (d, h)) = rw (e, le-leb 1 count (omega arith), lt-leb count 8 h)
 
-pub returns-then-lists-gt8 : goal.returns-then-lists-gt8
-unfolding keeps_rules
-returns-then-lists-gt8 c = simp (← c.lists_of-lists.ensures, le-leb 1 c.lists_of-lists.result (omega arith), lt-leb _ _ c.if-lists-gt8.true)
+-- one that some has
+module _ (words : List ℕ) (size count : ℕ) (same : get_or words 0 0 ≡ count) (some : count ≢ 0) (most : count ≤ 8) where
+  inside : gather size (take count (entries_from words)) 0 && all_zero (drop count (entries_from words)) ≡ keeps_rules size (eight (book_from words))
+  unfolding keeps_rules
+  inside = rw (same, le-leb 1 count (omega arith), le-leb count 8 most, le-leb count (length (entries_from words)) (omega (arith, entries_many words)))
 
-pub returns-then-not-shares_fit : goal.returns-then-not-shares_fit
+pub returns-then-count-eq1 : goal.returns-then-count-eq1
 unfolding keeps_rules
-returns-then-not-shares_fit c =
-    simp (
-      ← c.lists_of-lists.ensures,
-      le-leb 1 c.lists_of-lists.result (omega arith),
-      le-leb c.lists_of-lists.result 8 (omega arith),
-      le-leb c.lists_of-lists.result (length (entries_from c.args.words.now)) (omega (arith, entries_many c.args.words.now)),
-      ← c.shares_fit.ensures,
-      c.if-not-shares_fit.true,
-    )
+returns-then-count-eq1 c =
+    c.keeps_one.ensures ∙ sym (one_list (entry_from c.args.words.now) c.args.size _ (sym c.lists_of.ensures ∙ sym c.from-count.ensures ∙ c.if-count-eq1.true))
 
-pub returns : goal.returns
+pub returns-then-count-eq0 : goal.returns-then-count-eq0
 unfolding keeps_rules
-returns c =
-    simp (
-      ← c.lists_of-lists.ensures,
-      le-leb 1 c.lists_of-lists.result (omega arith),
-      le-leb c.lists_of-lists.result 8 (omega arith),
-      le-leb c.lists_of-lists.result (length (entries_from c.args.words.now)) (omega (arith, entries_many c.args.words.now)),
-      ← c.shares_fit.ensures,
-      c.if-not-shares_fit.false,
-      c.rest_zero.ensures,
-    )
+returns-then-count-eq0 c = outside c.args.size _ c.from-count.result _ (sym c.lists_of.ensures ∙ sym c.from-count.ensures) c.then-count-eq0.either
+
+pub returns-then-shares_fit : goal.returns-then-shares_fit
+returns-then-shares_fit c =
+    let a = c.args in
+    let all = inside a.words.now a.size c.from-count.result (sym (c.from-count.ensures ∙ c.lists_of.ensures)) (λ z. omega arith) (omega arith) in
+    ap (λ (b : Bool). b && c.rest_zero.result) (sym c.if-shares_fit.true ∙ c.shares_fit.ensures) ∙ ap (λ (b : Bool). gather a.size (take c.from-count.result (entries_from a.words.now)) 0 && b) (c.rest_zero.ensures ∙ rest a.words.now c.from-count.result (8 - c.from-count.result) (omega arith)) ∙ all
+
+pub returns-else-shares_fit : goal.returns-else-shares_fit
+returns-else-shares_fit c =
+    let a = c.args in
+    let all = inside a.words.now a.size c.from-count.result (sym (c.from-count.ensures ∙ c.lists_of.ensures)) (λ z. omega arith) (omega arith) in
+    c.if-shares_fit.false ∙ ap (λ (b : Bool). b && all_zero (drop c.from-count.result (entries_from a.words.now))) (sym c.if-shares_fit.false ∙ c.shares_fit.ensures) ∙ all

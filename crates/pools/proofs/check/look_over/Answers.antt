@@ -1,21 +1,22 @@
 -- `pools::check::look_over`: the parts that are lent on are the whole slices, and each answer follows from what the check finds in them.
 use mathlib.Core.Path.{◌≡◌, sym, ap, ◌∙◌}
-use mathlib.Core.Bool.{Bool, true}
+use mathlib.Core.Bool.{Bool, false}
 use mathlib.Core.List.{List}
 use Prim.Native.Nat.{ℕ}
 use native.Mathlib.Omega.{arith}
 use lib.Seq.{take_all, take-length}
-use lib.ListN.{length, take}
+use lib.ListN.{length, get_or, take}
 use Rattle.books.specs.Book.{eight}
 use Rattle.books.specs.Test.{keeps_rules}
-use Rattle.books.specs.Words.{entries_from, book_from}
+use Rattle.books.specs.Words.{book_from}
 use Rattle.books.proofs.Rules.{keeps_rules_lem}
-use Rattle.shapes.specs.declared.Found.{Found}
 use Rattle.engines.specs.Sound.{Fit}
-use Rattle.engines.specs.Check.{null_slot_zero, pool_found, check_found}
+use Rattle.engines.specs.Check.{null_slot_zero}
 use Rattle.engines.proofs.Stages.{met_none}
 use Rattle.xor.specs.Engine.{xor}
-use Rattle.pools.proofs.Told.{found_below, look_fine, look_nine, look_ten, kept_found, place_below, look_unsound}
+use Rattle.pools.proofs.Handed.{lacks_fit}
+use Rattle.pools.proofs.Told.{look_nine, look_ten, look_past}
+use Rattle.pools.proofs.check.look_over.Goals.{then-lists_of-eq0-via-then-lists_of-eq0, then-lists_of-eq0-via-else-lists_of-eq0+then-not-keeps_rules}
 use Rattle.pools.proofs.check.look_over.Goals as goal
 
 -- the part of each slice is the slice
@@ -30,24 +31,28 @@ module _ {links values : List ℕ} (fit : Fit xor links values) where
   tested : {t : Bool} → t ≡ null_slot_zero xor (take (length links) links) (take (length links) values) → t ≡ null_slot_zero xor links values
   tested e = rw (all_links, all_values) at e
 
-  -- what the check found in the parts it finds in the slices
-  found : (words : List ℕ) {f : Found} → true ≡ keeps_rules (length links) (eight (book_from words))
-      → f ≡ pool_found xor (take (length links) links) (take (length links) values) (take (book_from words).lists (entries_from words)) (book_from words).free
-      → f ≡ check_found xor links values (eight (book_from words))
-  found words k e = kept_found _ _ _ fit (sym k) _ (rw (all_links, all_values) at e)
+-- no book without lists keeps the rules
+no_lists : (words : List ℕ) (size : ℕ) → get_or words 0 0 ≡ 0 → keeps_rules size (eight (book_from words)) ≡ false
+unfolding keeps_rules
+no_lists words size e = rw e
 
 pub returns-then-lists_of-eq0 : goal.returns-then-lists_of-eq0
-unfolding keeps_rules
-returns-then-lists_of-eq0 c = (look_nine _ _ _ c.requires.0 (simp (← c.lists_of.ensures, c.if-lists_of-eq0.true)), λ d. omega arith)
-
-pub returns-then-not-keeps_rules : goal.returns-then-not-keeps_rules
-returns-then-not-keeps_rules c = (look_nine _ _ _ c.requires.0 (sym c.if-not-keeps_rules.ensures), λ d. omega arith)
+returns-then-lists_of-eq0 c =
+    let a = c.args in
+    let broken : keeps_rules (length a.links.now) (eight (book_from a.words.now)) ≡ false =
+    elim c.then-lists_of-eq0.branch [
+      | then-lists_of-eq0-via-then-lists_of-eq0 w ↦ no_lists a.words.now _ (sym c.lists_of.ensures ∙ w.if-lists_of-eq0.true)
+      | then-lists_of-eq0-via-else-lists_of-eq0+then-not-keeps_rules w ↦ sym w.keeps_rules.ensures ∙ w.if-not-keeps_rules.true
+    ] in
+    rw c.word_of.ensures (look_nine a.links.now a.values.now (eight (book_from a.words.now)) c.requires.0 c.into.result c.into.ensures broken)
 
 pub returns-then-not-null_slot_zero : goal.returns-then-not-null_slot_zero
-returns-then-not-null_slot_zero c = (look_ten _ _ _ c.requires.0 (sym c.if-not-keeps_rules.ensures) (sym (tested c.requires.0 c.if-not-null_slot_zero.ensures)), λ d. omega arith)
+returns-then-not-null_slot_zero c =
+    let a = c.args in
+    rw c.word_of-then-not-null_slot_zero.ensures (look_ten a.links.now a.values.now (eight (book_from a.words.now)) c.requires.0 (sym c.if-not-keeps_rules.ensures) _ c.into-then-not-null_slot_zero.ensures (sym (tested c.requires.0 c.if-not-null_slot_zero.ensures)))
 
-pub find_over-found-requires : goal.find_over-found-requires
-find_over-found-requires c =
+pub find_over-requires : goal.find_over-requires
+find_over-requires c =
     rw (all_links c.requires.0, all_values c.requires.0) (
       c.requires.0,
       ap (take (length c.args.links.now)) c.requires.2 ∙ met_none _ _ c.requires.1,
@@ -55,23 +60,15 @@ find_over-found-requires c =
       sym (tested c.requires.0 c.if-not-null_slot_zero.ensures),
     )
 
-pub fault_word-requires : goal.fault_word-requires
-fault_word-requires c = (
-  c.if-fault-ne0.true,
-  rw (found c.requires.0 c.args.words.now c.if-not-keeps_rules.ensures c.find_over-found.ensures) (place_below _ _ _ c.requires.0),
-)
-
-pub returns-then-fault-ne0 : goal.returns-then-fault-ne0
-returns-then-fault-ne0 c =
-    let f = found c.requires.0 c.args.words.now c.if-not-keeps_rules.ensures c.find_over-found.ensures in
-    (c.fault_word.ensures.0 ∙ look_unsound _ _ _ c.requires.0 _ f c.if-fault-ne0.true, c.fault_word.ensures.1)
-
-pub word_of-requires : goal.word_of-requires
-word_of-requires c =
-    let f = found c.requires.0 c.args.words.now c.if-not-keeps_rules.ensures c.find_over-found.ensures in
-    rw f (found_below _ _ _ c.requires.0 (rw f at c.if-fault-ne0.false))
+pub word_of-requires-2 : goal.word_of-requires-2
+word_of-requires-2 c =
+    let a = c.args in
+    lacks_fit a.links.now a.values.now (eight (book_from a.words.now)) c.requires.0 c.find_over.result
+    (look_past a.links.now a.values.now (eight (book_from a.words.now)) c.requires.0 (sym c.if-not-keeps_rules.ensures) c.find_over.result
+    (rw (all_links c.requires.0, all_values c.requires.0) at c.find_over.ensures))
 
 pub returns : goal.returns
 returns c =
-    let f = found c.requires.0 c.args.words.now c.if-not-keeps_rules.ensures c.find_over-found.ensures in
-    (c.word_of.ensures.0 ∙ look_fine _ _ _ c.requires.0 _ f c.if-fault-ne0.false, c.word_of.ensures.1)
+    let a = c.args in
+    rw c.word_of-2.ensures (look_past a.links.now a.values.now (eight (book_from a.words.now)) c.requires.0 (sym c.if-not-keeps_rules.ensures) c.find_over.result
+    (rw (all_links c.requires.0, all_values c.requires.0) at c.find_over.ensures))

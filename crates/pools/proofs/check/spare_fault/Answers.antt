@@ -1,16 +1,6 @@
--- `pools::check::spare_fault`: each answer follows from the tests on the way.
-use borrow.Author.Tests.{eq-eqb, ne_eqb, le-leb, lt-leb}
-use Rattle.shapes.specs.Faults.{spare_fault}
+-- `pools::check::spare_fault`: the lowest list over its limit, or else L where too few slots are free.
+use Rattle.pools.proofs.Found.{spare_said}
 use Rattle.pools.proofs.check.spare_fault.Goals as goal
 
-pub returns-then-over-lists : goal.returns-then-over-lists
-unfolding spare_fault
-returns-then-over-lists c = simp (ne_eqb _ _ c.if-over-lists.true)
-
-pub returns-then-free-lacks : goal.returns-then-free-lacks
-unfolding spare_fault
-returns-then-free-lacks c = simp (eq-eqb _ _ c.if-over-lists.false, lt-leb _ _ c.if-free-lacks.true)
-
 pub returns : goal.returns
-unfolding spare_fault
-returns c = simp (eq-eqb _ _ c.if-over-lists.false, le-leb _ _ c.if-free-lacks.false)
+returns c = λ later. rw (c.broken_at.ensures, c.or.ensures, c.then_some.ensures) (spare_said c.args.lists c.args.over c.args.lacks c.args.free c.requires later)

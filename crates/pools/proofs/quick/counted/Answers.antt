@@ -6,33 +6,33 @@ use Rattle.books.specs.declared.Free.{Free}
 use Rattle.engines.specs.Check.{sizes_fit}
 use Rattle.pools.proofs.quick.counted.Goals as goal
 
-pub returns-then-not-sizes_fit : goal.returns-then-not-sizes_fit
+pub returns-then-not-sizes_fit-clause-number : goal.returns-then-not-sizes_fit-clause-number
 unfolding sizes_fit
-returns-then-not-sizes_fit c = (rw (sym c.sizes_fit.ensures ∙ c.if-not-sizes_fit.true), λ z. absurd (omega arith))
+returns-then-not-sizes_fit-clause-number c = rw (sym c.sizes_fit.ensures ∙ c.if-not-sizes_fit.true)
 
-pub returns-then-lists-gt8 : goal.returns-then-lists-gt8
+pub returns-then-lists-gt8-clause-number : goal.returns-then-lists-gt8-clause-number
 unfolding sizes_fit
-returns-then-lists-gt8 c =
-    (simp (← c.sizes_fit.ensures, c.if-not-sizes_fit.false, ← c.lists_of-lists.ensures, lt-ltb 0 c.lists_of-lists.result (omega arith), lt-leb c.lists_of-lists.result 8 c.if-lists-gt8.true), λ z. absurd (omega arith))
+returns-then-lists-gt8-clause-number c =
+    simp (← c.sizes_fit.ensures, c.if-not-sizes_fit.false, ← c.lists_of-lists.ensures, lt-ltb 0 c.lists_of-lists.result (omega arith), lt-leb c.lists_of-lists.result 8 c.if-lists-gt8.true)
 
-pub returns-then-lists-eq0 : goal.returns-then-lists-eq0
+pub returns-then-lists-eq0-clause-number : goal.returns-then-lists-eq0-clause-number
 unfolding sizes_fit
-returns-then-lists-eq0 c =
-    (simp (← c.sizes_fit.ensures, c.if-not-sizes_fit.false, ← c.lists_of-lists.ensures, c.if-lists-eq0.true), λ z. absurd (omega arith))
+returns-then-lists-eq0-clause-number c =
+    simp (← c.sizes_fit.ensures, c.if-not-sizes_fit.false, ← c.lists_of-lists.ensures, c.if-lists-eq0.true)
 
-pub returns-then-lists-list : goal.returns-then-lists-list
+pub returns-then-lists-list-clause-number : goal.returns-then-lists-list-clause-number
 unfolding sizes_fit
-returns-then-lists-list c =
-    (simp (← c.sizes_fit.ensures, c.if-not-sizes_fit.false, ← c.lists_of-lists.ensures, lt-ltb 0 c.lists_of-lists.result (omega arith), le-leb c.lists_of-lists.result 8 (omega arith), le-leb _ _ c.if-lists-list.true), λ z. absurd (omega arith))
+returns-then-lists-list-clause-number c =
+    simp (← c.sizes_fit.ensures, c.if-not-sizes_fit.false, ← c.lists_of-lists.ensures, lt-ltb 0 c.lists_of-lists.result (omega arith), le-leb c.lists_of-lists.result 8 (omega arith), le-leb _ _ c.if-lists-list.true)
 
-pub returns-then-wide-size : goal.returns-then-wide-size
+pub returns-then-from-size-clause-number : goal.returns-then-from-size-clause-number
 unfolding sizes_fit
-returns-then-wide-size c =
-    let count = c.wide.ensures.0 ∙ ap (λ (f : Free). f.count) c.free_of-free.ensures in
-    (simp (← c.sizes_fit.ensures, c.if-not-sizes_fit.false, ← c.lists_of-lists.ensures, lt-ltb 0 c.lists_of-lists.result (omega arith), le-leb c.lists_of-lists.result 8 (omega arith), lt-leb _ _ c.if-lists-list.false, ← count, lt-ltb _ _ c.if-wide-size.true), λ z. omega arith)
+returns-then-from-size-clause-number c =
+    let count = c.from.ensures ∙ ap (λ (f : Free). f.count) c.free_of-free.ensures in
+    simp (← c.sizes_fit.ensures, c.if-not-sizes_fit.false, ← c.lists_of-lists.ensures, lt-ltb 0 c.lists_of-lists.result (omega arith), le-leb c.lists_of-lists.result 8 (omega arith), lt-leb _ _ c.if-lists-list.false, ← count, lt-ltb _ _ c.if-from-size.true)
 
-pub returns : goal.returns
+pub returns-clause-number : goal.returns-clause-number
 unfolding sizes_fit
-returns c =
-    let count = c.wide.ensures.0 ∙ ap (λ (f : Free). f.count) c.free_of-free.ensures in
-    (simp (← c.sizes_fit.ensures, c.if-not-sizes_fit.false, ← c.lists_of-lists.ensures, lt-ltb 0 c.lists_of-lists.result (omega arith), le-leb c.lists_of-lists.result 8 (omega arith), lt-leb _ _ c.if-lists-list.false, ← count, le-ltb _ _ c.if-wide-size.false), λ z. absurd (omega arith))
+returns-clause-number c =
+    let count = c.from.ensures ∙ ap (λ (f : Free). f.count) c.free_of-free.ensures in
+    simp (← c.sizes_fit.ensures, c.if-not-sizes_fit.false, ← c.lists_of-lists.ensures, lt-ltb 0 c.lists_of-lists.result (omega arith), le-leb c.lists_of-lists.result 8 (omega arith), lt-leb _ _ c.if-lists-list.false, ← count, le-ltb _ _ c.if-from-size.false)

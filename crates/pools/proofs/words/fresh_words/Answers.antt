@@ -1,37 +1,21 @@
--- `pools::words::fresh_words`: the five words of a fresh entry are put at each turn, and the idle chain after the last.
+-- `pools::words::fresh_words`: the entries that are made, in the order of the lists, are those of a fresh book.
+use mathlib.Core.Path.{◌≡◌, refl, ap, ◌∙◌}
 use mathlib.Core.List.{List}
 use Prim.Native.Nat.{ℕ}
-use native.Mathlib.Omega.{arith}
-use Rattle.books.specs.declared.Free.{Free}
+use Rattle.std.specs.Prelude.{map}
+use Rattle.std.specs.List.{range_with_len}
 use Rattle.books.specs.declared.Entry.{Entry}
-use Rattle.books.specs.Book.{most_lists, zero_entry}
+use Rattle.books.specs.Book.{most_lists, words_of}
 use Rattle.books.specs.Tabulate.{tabulate}
-use Rattle.books.proofs.Tabulate.{tabulate-length, tabulate_at}
 use Rattle.shapes.specs.Setup.{fresh_entry}
-use Rattle.pools.proofs.Put.{put_entry, put_all}
 use Rattle.pools.proofs.words.fresh_words.Goals as goal
 
-abbrev fresh : List ℕ → List ℕ → List Entry
-fresh shares limits = tabulate most_lists (fresh_entry shares limits)
-
-abbrev idle : ℕ → Free
-idle free = record { head = 1; count = free }
-
-pub loop-list-preserved : goal.loop-list-preserved
-loop-list-preserved c =
-    let at = c.loop-list in
-    let inv = at.invariant in
-    let a = c.args in
-    let f = fresh_entry a.shares.now a.limits.now in
-    record {
-      put = put_entry _ (fresh a.shares.now a.limits.now) (idle a.free) (f at.list) _ at.list (tabulate_at zero_entry 8 f at.list (omega arith)) (omega (arith, tabulate-length 8 f)) (omega (arith, inv.put.size, inv.long)) inv.put;
-      long = inv.long;
-      within = omega arith;
-    }
+in_order : (f : ℕ → Entry) → map f (range_with_len 0 8) ≡ tabulate most_lists f
+unfolding tabulate
+in_order f = refl
 
 pub returns : goal.returns
 returns c =
-    let inv = c.loop-list.invariant in
     let a = c.args in
-    let f = fresh_entry a.shares.now a.limits.now in
-    put_all _ (fresh a.shares.now a.limits.now) (idle a.free) _ c.loop-list.list inv.long (tabulate-length 8 f) (omega arith) inv.put
+    c.words_of.ensures
+    ∙ ap (λ (es : List Entry). words_of (record { lists = a.lists; entries = es; free = record { head = 1; count = a.free } })) (c.fresh_entries.ensures ∙ in_order (fresh_entry a.shares.now a.limits.now))

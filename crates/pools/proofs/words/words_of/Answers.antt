@@ -11,7 +11,6 @@ loop-list-preserved c =
       put = put_more _ book.entries book.free _ c.loop-list.list (omega (arith, inv.entries)) (omega (arith, inv.put.size, inv.long)) inv.put;
       long = inv.long;
       entries = inv.entries;
-      within = omega arith;
     }
 
 pub returns : goal.returns

@@ -1,32 +1,20 @@
--- `shares::ends::push`: what the check and `list_refusal` promise, by the test of their number, and what the push on the list gives back.
-use Rattle.std.specs.Prelude.{◌≡◌, length}
-use mathlib.Core.Path.{◌∙◌}
-use borrow.Author.Rules.{rules}
-use Rattle.engines.proofs.Looking.{early_stopped, early_passed}
-use Rattle.xor.specs.Engine.{xor}
-use Rattle.shares.proofs.Reached.{look_of_words, push_early, inside, push_put}
+-- `shares::ends::push`: what the test of 1, 9 to 16 and 4 tells, and what the push on the list gives back.
+use Rattle.shares.proofs.Listed.{push_listed_stops, push_listed_refused, push_listed_done}
 use Rattle.shares.proofs.ends.push.Goals as goal
 
-pub returns-then-early-ne0 : goal.returns-then-early-ne0
-returns-then-early-ne0 c =
+pub returns-in_err-lacks : goal.returns-in_err-lacks
+returns-in_err-lacks c =
     let a = c.args in
-    let entries : length a.book.entries ≡ 8 = search rules in
-    let looked = look_of_words a.links.now a.values.now a.book entries c.words_of-words.ensures (c.told-seen.ensures ∙ c.look-word.ensures.0) in
-    let e = early_stopped xor _ _ _ _ _ looked _ c.list_refusal-early.ensures c.if-early-ne0.true in
-    push_early _ _ _ _ _ e c.if-early-ne0.true _ _
+    push_listed_stops a.links.now a.values.now a.book a.list _ c.in_err-lacks.ensures.seen _ c.from_residual.ensures.1 a.end a.value
 
-pub bounds-book-k : goal.bounds-book-k
-bounds-book-k c =
+pub returns-in_err-push : goal.returns-in_err-push
+returns-in_err-push c =
     let a = c.args in
-    let entries : length a.book.entries ≡ 8 = search rules in
-    let looked = look_of_words a.links.now a.values.now a.book entries c.words_of-words.ensures (c.told-seen.ensures ∙ c.look-word.ensures.0) in
-    let (e, z) = early_passed xor _ _ _ _ _ looked _ c.list_refusal-early.ensures c.if-early-ne0.false in
-    inside _ _ _ _ _ e z c.wide-k.ensures.0
+    let listed = c.in_ok-lacks.ensures in
+    push_listed_refused a.links.now a.values.now a.book a.list listed.seen listed.chains a.end a.value _ _ c.from_residual-in_err-push.ensures.1 c.in_err-push.ensures
 
 pub returns : goal.returns
 returns c =
     let a = c.args in
-    let entries : length a.book.entries ≡ 8 = search rules in
-    let looked = look_of_words a.links.now a.values.now a.book entries c.words_of-words.ensures (c.told-seen.ensures ∙ c.look-word.ensures.0) in
-    let (e, z) = early_passed xor _ _ _ _ _ looked _ c.list_refusal-early.ensures c.if-early-ne0.false in
-    push_put _ _ _ _ _ e z c.wide-k.ensures.0 c.with_list.ensures a.end a.value c.push-gone.ensures
+    let listed = c.in_ok-lacks.ensures in
+    push_listed_done a.links.now a.values.now a.book a.list listed.seen listed.chains a.end a.value c.in_ok-push.ensures

@@ -1,20 +1,20 @@
--- `shares::quick::pop`: what the first tests promise, by the test of their number, and what the pop from the list gives back.
-use Rattle.std.specs.Prelude.{◌≡◌, length}
-use borrow.Author.Rules.{rules}
-use Rattle.books.specs.Book.{eight}
-use Rattle.shares.proofs.QuickReached.{early_of_words, quick_pop_early, quick_pop_put}
+-- `shares::quick::pop`: what the first tests tell, and what the pop from the list gives back.
+use Rattle.shares.proofs.QuickListed.{quick_pop_listed_stops, quick_pop_listed_refused, quick_pop_listed_done}
 use Rattle.shares.proofs.quick.pop.Goals as goal
 
-pub returns-then-number-ne0 : goal.returns-then-number-ne0
-returns-then-number-ne0 c =
+pub returns-in_err-chains : goal.returns-in_err-chains
+returns-in_err-chains c =
     let a = c.args in
-    let entries : length a.book.entries ≡ 8 = search rules in
-    let told = early_of_words a.links.now a.values.now a.book a.list entries c.words_of-words.ensures c.early-number.ensures in
-    quick_pop_early a.links.now a.values.now (eight a.book) a.list told c.if-number-ne0.true a.end c.numbered.ensures c.popped.ensures
+    quick_pop_listed_stops a.links.now a.values.now a.book a.list _ c.in_err-chains.ensures.number _ c.from_residual.ensures.1 a.end
+
+pub returns-in_err-pop_on : goal.returns-in_err-pop_on
+returns-in_err-pop_on c =
+    let a = c.args in
+    let listed = c.in_ok-chains.ensures in
+    quick_pop_listed_refused a.links.now a.values.now a.book a.list listed.number listed.chains.1 a.end _ _ c.from_residual-in_err-pop_on.ensures.1 c.in_err-pop_on.ensures
 
 pub returns : goal.returns
 returns c =
     let a = c.args in
-    let entries : length a.book.entries ≡ 8 = search rules in
-    let told = early_of_words a.links.now a.values.now a.book a.list entries c.words_of-words.ensures c.early-number.ensures in
-    quick_pop_put a.links.now a.values.now (eight a.book) a.list told c.if-number-ne0.false c.wide-k.ensures.0 c.with_list.ensures a.end c.numbered-2.ensures c.popped-2.ensures c.pop_on-gone.ensures
+    let listed = c.in_ok-chains.ensures in
+    quick_pop_listed_done a.links.now a.values.now a.book a.list listed.number listed.chains.1 a.end c.in_ok-pop_on.ensures

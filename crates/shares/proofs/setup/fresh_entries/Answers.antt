@@ -1,9 +1,12 @@
--- `shares::setup::fresh_entries`: an entry is filled in at each turn, and after eight all are.
-use mathlib.Core.Path.{refl}
+-- `shares::setup::fresh_entries`: the entries one by one.
+use Rattle.std.specs.Prelude.{◌≡◌, map}
+use Rattle.std.specs.List.{range_with_len}
 use native.Mathlib.Omega.{arith}
-use Rattle.books.specs.Book.{zero_entry}
-use Rattle.books.proofs.Fill.{fill_all}
+use Rattle.std.proofs.lemmas.Grind.{common_steps}
+use Rattle.books.specs.Tabulate.{tabulate}
+use Rattle.shapes.specs.Setup.{fresh_entry}
 use Rattle.shares.proofs.setup.fresh_entries.Goals as goal
 
 pub returns : goal.returns
-returns c = fill_all zero_entry _ _ _ _ _ c.loop-list.invariant.filled refl (omega arith)
+unfolding tabulate
+returns c = let each : c.from_fn.result ≡ map (fresh_entry c.args.shares c.args.limits) (range_with_len 0 8) = grind (arith, common_steps) in each

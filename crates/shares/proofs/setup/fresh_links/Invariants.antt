@@ -1,17 +1,8 @@
 -- `shares::setup::fresh_links`: after each turn the places so far are filled; the first stands before the loop.
-use Rattle.std.specs.Prelude.{◌≡◌, ◌+◌, ◌-◌, ◌≤◌, length}
+use Rattle.std.specs.Prelude.{length}
 use Rattle.books.proofs.Fill.{Filling}
 use Rattle.xor.specs.Engine.{fresh_link}
 use Rattle.shares.proofs.setup.fresh_links.Given as goal
 
 abbrev pub invariant-loop-slot : goal.invariant-loop-slot
-invariant-loop-slot l =
-    record {
-      filled : Filling 0 (fresh_link (l.last + 1)) l.initial.links l.links l.slot;
-      long : length l.initial.links ≡ l.last + 1;
-      inner : 1 ≤ l.slot;
-      within : l.slot ≤ l.last;
-    }
-
-abbrev pub decreases-loop-slot : goal.decreases-loop-slot
-decreases-loop-slot l = l.last - l.slot
+invariant-loop-slot l = Filling 0 (fresh_link (length l.fn.links)) l.initial.links l.links l.slot
