@@ -77,7 +77,7 @@
  *
  * WHAT IS LEFT TO THE FIRMWARE TO WIPE. The value that it hands to a push, in its own variables and, it being the seventh
  * argument, on its own stack; a value that a pop hands out; the copies that a read writes; and registers: after a done checked
- * push rcx holds the value, after a done checked pop r8 or r9, and after a done quick push r10, until something else is put there.
+ * pop rdi holds the value, and after a done quick push r10 does, until something else is put there.
  * After the other done calls no register does. In the dead stack below the caller no call, done or refused, leaves a copy of a
  * block that it was lent or handed. But a call saves there the registers that it must keep for its caller (rbx, rbp, r12 to
  * r15), so a block that the caller itself has in one of them is left there too. This is measured on the compiled archive, at

@@ -1,5 +1,5 @@
 -- What a call on a list of the C face answers and keeps in the lent words, told from what the same call answers by value.
-use Rattle.std.specs.Prelude.{◌≡◌, ℕ, List, Result, Ok, Err, IsErrAnd}
+use Rattle.std.specs.Prelude.{◌≡◌, ◌≢◌, ℕ, List, Result, Ok, Err, IsErrAnd}
 use mathlib.Core.Path.{refl, sym, ap, ◌∙◌}
 use Rattle.books.specs.declared.Answer.{Answer}
 use Rattle.books.specs.declared.Popped.{Popped}
@@ -17,8 +17,13 @@ use Rattle.pools.specs.Kept.{with_ends}
 use Rattle.pools.proofs.Found.{handed_on}
 use Rattle.shares.specs.Answers.{answer_by, popped_answer_by}
 use Rattle.shares.proofs.Listed.{refused_there}
+use Rattle.engines.specs.Calls.{pop_call}
+use Rattle.engines.proofs.Outcomes.{pop_refused}
+use Rattle.shapes.specs.declared.End.{End}
+use Rattle.xor.specs.Engine.{xor}
+use Rattle.xor.specs.Ten.{as_popped}
 use Rattle.faces.proofs.Kept.{kept_done, kept_refused}
-use Rattle.faces.specs.Face.{changed, handed, as_changed, as_handed}
+use Rattle.faces.specs.Face.{Handed, changed, handed, as_changed, as_handed}
 use Rattle.faces.specs.Quick.{quick_pushed, quick_popped, as_quick_pushed, as_quick_popped}
 use Rattle.abi.proofs.Thin.{changed_by, handed_by, quick_pushed_by, quick_popped_by}
 use Rattle.abi.proofs.Granted.{Granted, ends_again}
@@ -63,3 +68,12 @@ module _ (words : List ℕ) (l : ℕ) (after : Chains) {kept_words : List ℕ} (
 
     pub quick_pop_done : {value : ℕ} {o : Outcome Popped} → outcome (popped_answer_by (book_from words) l (Ok after) value) links values ≡ o → outcome (quick_popped 0 value kept_words) links values ≡ as_quick_popped words o
     quick_pop_done q = quick_popped_by words refl refl (whole ∙ sym (kept_done _ _ _ refl)) q
+
+-- a refused pop writes 0 to the lent word, so that a 0 there changes nothing
+module _ (links values words : List ℕ) (l : ℕ) (end : End) where
+  pub none_handed : (o : Outcome Handed) → o ≡ as_handed words (as_popped (pop_call xor links values (eight (book_from words)) l end)) → o.answer.number ≢ 0
+      → outcome (handed o.answer.number o.answer.place 0 o.answer.book) o.links o.values ≡ as_handed words (as_popped (pop_call xor links values (eight (book_from words)) l end))
+  none_handed o e d =
+      ap (λ (v : ℕ). outcome (handed o.answer.number o.answer.place v o.answer.book) o.links o.values)
+      (sym (ap (λ (x : Outcome Handed). x.answer.value) e ∙ (pop_refused xor links values (eight (book_from words)) l end (λ z. d (ap (λ (x : Outcome Handed). x.answer.number) e ∙ z))).no_value))
+      ∙ e

@@ -1,5 +1,5 @@
 // Setup, the pushes, the pops and clear for C. A refused one changes neither the pool nor the book, and stores nothing there. Each but setup
-// writes the place, 0 and 0 where its number sets none.
+// writes the place, 0 and 0 where its number sets none: first these, so that a call that is done keeps nothing for it.
 ghost use Rattle.std.specs.Prelude.{◌≡◌};
 ghost use Rattle.books.specs.Book.{eight};
 ghost use Rattle.books.specs.Errors.{refusal_told};
@@ -11,7 +11,7 @@ ghost use Rattle.xor.specs.Engine.{xor};
 ghost use Rattle.xor.specs.Ten.{as_answer, as_popped, clear_of};
 ghost use Rattle.faces.specs.Face.{prepared, changed, handed, as_changed, as_handed, setup_face, push_back_face, push_front_face, pop_back_face, pop_front_face, clear_face};
 
-use crate::words::told;
+use crate::words::noted;
 use books::{Refused, Words};
 use pools::words::put_list;
 use shapes::End;
@@ -49,8 +49,9 @@ pub extern "C" fn flailreeve_push_back(
 ) -> u16
     ensures { outcome (changed result (place_from place.new) book.new) links.new values.new ≡ push_back_face links.old values.old book.old list value }
 {
+    *place = [0, 0];
     let change = push(links, values, book, End::Back, list, value);
-    told(change.into(), place)
+    noted(change, place)
 }
 
 #[unsafe(no_mangle)]
@@ -64,8 +65,9 @@ pub extern "C" fn flailreeve_push_front(
 ) -> u16
     ensures { outcome (changed result (place_from place.new) book.new) links.new values.new ≡ push_front_face links.old values.old book.old list value }
 {
+    *place = [0, 0];
     let change = push(links, values, book, End::Front, list, value);
-    told(change.into(), place)
+    noted(change, place)
 }
 
 #[unsafe(no_mangle)]
@@ -79,8 +81,13 @@ pub extern "C" fn flailreeve_pop_back(
 ) -> u16
     ensures { outcome (handed result (place_from place.new) value.new book.new) links.new values.new ≡ pop_back_face links.old values.old book.old list }
 {
+    *place = [0, 0];
     let change = pop(links, values, book, End::Back, list, value);
-    told(change.into(), place)
+    let number = noted(change, place);
+    if number != 0 {
+        *value = 0;
+    }
+    number
 }
 
 #[unsafe(no_mangle)]
@@ -94,8 +101,13 @@ pub extern "C" fn flailreeve_pop_front(
 ) -> u16
     ensures { outcome (handed result (place_from place.new) value.new book.new) links.new values.new ≡ pop_front_face links.old values.old book.old list }
 {
+    *place = [0, 0];
     let change = pop(links, values, book, End::Front, list, value);
-    told(change.into(), place)
+    let number = noted(change, place);
+    if number != 0 {
+        *value = 0;
+    }
+    number
 }
 
 #[unsafe(no_mangle)]
@@ -108,8 +120,9 @@ pub extern "C" fn flailreeve_clear(
 ) -> u16
     ensures { outcome (changed result (place_from place.new) book.new) links.new values.new ≡ clear_face links.old values.old book.old list }
 {
+    *place = [0, 0];
     let change = clear(links, values, book, list);
-    told(change.into(), place)
+    noted(change, place)
 }
 
 // A push at either end. Each end has its own tests, since this is inlined into its two callers.
@@ -130,7 +143,8 @@ fn push(
     Ok(())
 }
 
-// A pop at either end. Its value goes into the lent word, which is 0 where the pop is refused.
+// A pop at either end. Its value goes into the lent word, which is 0 where the pop is refused. It is stored once: where the pop is done after
+// the cells, and else after the place, for which the callers store the 0 again.
 #[inline(always)]
 fn pop(
     links: &mut [u16],
@@ -142,8 +156,13 @@ fn pop(
 ) -> Result<(), Refused>
     ensures { outcome (handed (refusal_told result).number (place_in (refusal_told result)) value.new book.new) links.new values.new ≡ as_handed book.old (as_popped (pop_call xor links.old values.old (eight (book_from book.old)) list end)) }
 {
-    *value = 0;
-    let (_, chains) = listed(links, values, book, list)?;
+    let (_, chains) = match listed(links, values, book, list) {
+        Ok(seen) => seen,
+        Err(refused) => {
+            *value = 0;
+            return Err(refused);
+        }
+    };
     let after = shares::inner::pop(links, values, end, chains, value)?;
     put_list(book, list, after);
     Ok(())

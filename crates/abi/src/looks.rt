@@ -16,7 +16,12 @@ pub extern "C" fn flailreeve_check(
 ) -> u16
     ensures { checked result (place_from place.new) ≡ check_face links.now values.now book.now }
 {
-    told(shares::check::check_words(links, values, book), place)
+    *place = [0, 0];
+    let refusal = shares::check::check_words(links, values, book);
+    if refusal.number != 0 {
+        *place = [refusal.list, refusal.position];
+    }
+    refusal.number
 }
 
 #[unsafe(no_mangle)]
@@ -30,9 +35,14 @@ pub extern "C" fn flailreeve_length(
 ) -> u16
     ensures { told result (place_from place.new) length.new ≡ length_face links.now values.now book.now list }
 {
+    *place = [0, 0];
     let answer = shares::reads::length_words(links, values, book, list);
+    let refusal = answer.refusal;
     *length = answer.length;
-    told(answer.refusal, place)
+    if refusal.number != 0 {
+        *place = [refusal.list, refusal.position];
+    }
+    refusal.number
 }
 
 #[unsafe(no_mangle)]

@@ -88,7 +88,7 @@ fn push(
     Ok(())
 }
 
-// A pop at either end. Its value goes into the lent word, which is 0 where the pop is refused.
+// A pop at either end. Its value goes into the lent word, which is 0 where the pop is refused. It is stored once, after the cells.
 #[inline(always)]
 fn pop(
     links: &mut [u16],
@@ -100,8 +100,10 @@ fn pop(
 ) -> Result<(), Number>
     ensures { outcome (quick_popped (number_by result) value.new book.new) links.new values.new ≡ as_quick_popped book.old (as_popped (quick_pop xor links.old values.old (eight (book_from book.old)) list end)) }
 {
-    *value = 0;
-    pools::quick::early(links, values, book, list)?;
+    if let Err(number) = pools::quick::early(links, values, book, list) {
+        *value = 0;
+        return Err(number);
+    }
     let chains = Chains {
         list: entry_of(book, list),
         idle: free_of(book),

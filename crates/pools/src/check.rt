@@ -11,7 +11,7 @@ ghost use Rattle.engines.specs.Sound.{Fit};
 ghost use Rattle.engines.specs.Check.{null_slot_zero, idle_path, idle_found, pool_found, look_of};
 ghost use Rattle.xor.specs.Engine.{xor};
 ghost use Rattle.pools.specs.Found.{fault_or, rule_broken_at, no_rule_broken, lowest_by, gathered_by, ListsBelow, look_found};
-ghost use Rattle.pools.specs.Word.{told_in};
+ghost use Rattle.pools.specs.Word.{told_in, told_by, NoMore};
 
 use crate::gather::Counts;
 use crate::word::{told, word_of};
@@ -176,7 +176,8 @@ fn find_over(links: &[u16], values: &[u64], met: &mut [u8], words: &Words) -> Re
 // other.
 fn look_over(links: &[u16], values: &[u64], met: &mut [u8], words: &Words) -> usize
     requires { Fit xor links.now values.now × (length links.now ≤ length met.old) × (met.old ≡ nothing_met (length met.old)) }
-    ensures { looked_by (told_in result) ≡ look_of xor links.now values.now (eight (book_from words.now)) }
+    ensures seen { looked_by (told_in result) ≡ look_of xor links.now values.now (eight (book_from words.now)) }
+    ensures alone { (told_by result ≡ look_of xor links.now values.now (eight (book_from words.now))) × NoMore result }
 {
     let size = links.len();
     if crate::words::lists_of(words) == 0 || !crate::book::keeps_rules(words, size) {
@@ -193,34 +194,44 @@ fn look_over(links: &[u16], values: &[u64], met: &mut [u8], words: &Words) -> us
 // walk along dozens of slots, so smaller pools have smaller ones. It saves no stack: the three have one place in the frame.
 fn look_in<const N: usize>(links: &[u16], values: &[u64], words: &Words) -> usize
     requires { Fit xor links.now values.now × (length links.now ≤ N) × (N ≤ 4096) }
-    ensures { looked_by (told_in result) ≡ look_of xor links.now values.now (eight (book_from words.now)) }
+    ensures seen { looked_by (told_in result) ≡ look_of xor links.now values.now (eight (book_from words.now)) }
+    ensures alone { (told_by result ≡ look_of xor links.now values.now (eight (book_from words.now))) × NoMore result }
 {
     let mut met = [0u8; N];
     look_over(links, values, &mut met, words)
 }
 
 // 1 where the sizes do not fit; where the pool is not sound the rule that is first broken, with its place; else what the lists lack of
-// their shares. The largest size is asked for last, since a small pool then needs no such test. It is always inlined: the one call below that
-// is not hands over a number (crates/pools/src/word.rt), where a `Result` would go through memory.
+// their shares. It is always inlined: the calls below it hand over a number (crates/pools/src/word.rt), where a `Result` would go through
+// memory.
 #[inline(always)]
 pub fn look(links: &[u16], values: &[u64], words: &Words) -> Result<usize, Refused>
     ensures { looked_by result ≡ look_of xor links.now values.now (eight (book_from words.now)) }
 {
+    told(look_told(links, values, words))
+}
+
+// The same as a number, which is told apart in one place. The largest size is asked for last, since a small pool then needs no such test.
+#[inline(always)]
+fn look_told(links: &[u16], values: &[u64], words: &Words) -> usize
+    ensures seen { looked_by (told_in result) ≡ look_of xor links.now values.now (eight (book_from words.now)) }
+    ensures alone { (told_by result ≡ look_of xor links.now values.now (eight (book_from words.now))) × NoMore result }
+{
     let size = links.len();
     if size != values.len() {
-        return Err(Number::Sizes.into());
+        return word_of(Err(Number::Sizes.into()));
     }
     if size <= 64 {
         if size < 2 {
-            return Err(Number::Sizes.into());
+            return word_of(Err(Number::Sizes.into()));
         }
-        return told(look_in::<64>(links, values, words));
+        return look_in::<64>(links, values, words);
     }
     if size <= 256 {
-        return told(look_in::<256>(links, values, words));
+        return look_in::<256>(links, values, words);
     }
     if size <= Book::LARGEST {
-        return told(look_in::<4096>(links, values, words));
+        return look_in::<4096>(links, values, words);
     }
-    Err(Number::Sizes.into())
+    word_of(Err(Number::Sizes.into()))
 }

@@ -146,6 +146,7 @@ pub fn put_list(words: &mut Words, list: u16, chains: Chains)
         words[k + 2] = chains.list.tail;
         words[k + 5] = chains.list.length;
     }
-    words[41] = chains.idle.head;
+    // The count before the head: between the two stores a chain is broken then, and not a count alone.
     words[42] = chains.idle.count;
+    words[41] = chains.idle.head;
 }

@@ -27,7 +27,7 @@ pub fn push(
     Ok(crate::counted::push(links, values, end, chains, value).unwrap_or(chains))
 }
 
-// Refused by 5; the word is 0 then, and nothing else changes.
+// Refused by 5; the word is 0 then, and nothing else changes. The word is stored once, after the cells.
 #[tactic(auto, unfolding(engines::specs::OnList::pop_on, shapes::specs::Numbers::decided))]
 pub fn pop(
     links: &mut [u16],
@@ -38,11 +38,11 @@ pub fn pop(
 ) -> Result<Chains, Number>
     ensures { on_list (list_change_by chains result) value.new links.new values.new ≡ pop_on xor links.old values.old chains.list chains.idle end }
 {
-    *value = 0;
-    pop_number(chains.list.length)?;
-    let Some((popped, after)) = crate::counted::pop(links, values, end, chains) else {
-        return Ok(chains);
-    };
+    if let Err(number) = pop_number(chains.list.length) {
+        *value = 0;
+        return Err(number);
+    }
+    let (popped, after) = crate::counted::pop(links, values, end, chains).unwrap_or((0, chains));
     *value = popped;
     Ok(after)
 }

@@ -89,7 +89,8 @@ pub fn push_on(
     crate::counted::push(links, values, end, chains, value).ok_or(Number::Untrusted)
 }
 
-// Refused by 5 or 17, in that order; the word is 0 then, and nothing else changes. It is inlined as `push_on` is.
+// Refused by 5 or 17, in that order; the word is 0 then, and nothing else changes. The word is stored once, after the cells. It is inlined
+// as `push_on` is.
 #[inline(always)]
 #[tactic(auto, unfolding(engines::specs::Quick::quick_pop_on, shapes::specs::Numbers::decided))]
 pub fn pop_on(
@@ -101,12 +102,16 @@ pub fn pop_on(
 ) -> Result<Chains, Number>
     ensures { on_list (list_change_by chains result) value.new links.new values.new ≡ quick_pop_on xor end links.old values.old chains.list chains.idle }
 {
-    *value = 0;
-    pop_number(chains.list.length)?;
+    if let Err(number) = pop_number(chains.list.length) {
+        *value = 0;
+        return Err(number);
+    }
     if links.len() <= usize::from(chains.idle.count) + 1 {
+        *value = 0;
         return Err(Number::Untrusted);
     }
     let Some((popped, after)) = crate::counted::pop(links, values, end, chains) else {
+        *value = 0;
         return Err(Number::Untrusted);
     };
     *value = popped;

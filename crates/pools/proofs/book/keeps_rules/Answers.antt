@@ -1,7 +1,6 @@
 -- `pools::book::keeps_rules`: each answer follows from the tests on the way and from what the two loops promise.
 use mathlib.Core.Path.{◌≡◌, refl, sym, ap, ◌∙◌}
 use mathlib.Core.List.{List}
-use mathlib.Core.List.{List}
 use mathlib.Core.Logic.{◌≢◌, ◌⊎◌, inl, inr}
 use mathlib.Core.Bool.{Bool, true, false, ◌&&◌}
 use Prim.Native.Nat.{ℕ, zero, suc, ◌+◌, ◌-◌, ◌≤◌, ◌<◌}
@@ -9,13 +8,12 @@ use native.Mathlib.Omega.{arith}
 use lib.Dec.{leb, ltb}
 use lib.ListN.{length, get_or, take, drop}
 use borrow.Author.Tests.{leb-true, ltb-true, le-leb, lt-leb, lt-ltb}
-use Rattle.std.specs.List.{list_all, range_with_len}
 use Rattle.books.specs.declared.Entry.{Entry}
 use Rattle.books.specs.Book.{eight}
 use Rattle.books.specs.Tabulate.{tabulate}
 use Rattle.books.specs.Test.{is_fair, is_zero, gather, all_zero, rules_hold, keeps_rules}
 use Rattle.books.specs.Words.{entry_from, entries_from, book_from}
-use Rattle.books.proofs.Eight.{zero_adds, zero_past, fair_adds, fair_past}
+use Rattle.books.proofs.Eight.{fair_adds, fair_past}
 use Rattle.books.proofs.Tabulate.{tabulate-length}
 use Rattle.books.proofs.Flat.{entries_many}
 use Rattle.pools.proofs.book.keeps_rules.Goals as goal
@@ -42,11 +40,6 @@ module _ (f : ℕ → Entry) (size : ℕ) where
   one_list : (lists : ℕ) → lists ≡ 1 → rules_hold size 8 lists (tabulate 8 f) ≡ is_fair size (f 0) && all_zero (drop 1 (tabulate 8 f))
   one_list lists e = rw (e, le-leb 1 (length (tabulate 8 f)) (omega (arith, tabulate-length 8 f))) (ap (λ (z : Bool). z && all_zero (drop 1 (tabulate 8 f))) one_fair)
 
--- the entries from one on, asked one by one
-rest : (words : List ℕ) (k n : ℕ) → k + n ≡ 8 → list_all (λ (l : ℕ). is_zero (entry_from words l)) (range_with_len k n) ≡ all_zero (drop k (entries_from words))
-rest words k zero e = sym (zero_past (entry_from words) k (omega arith))
-rest words k (suc n) e = ap (λ (b : Bool). is_zero (entry_from words k) && b) (rest words (k + 1) n (omega arith)) ∙ sym (zero_adds (entry_from words) k (omega arith))
-
 -- a number of lists that no book has
 outside : (size lists count : ℕ) (es : List Entry) → lists ≡ count → (count ≡ 0) ⊎ ((count ≢ 0) × (8 < count)) → false ≡ rules_hold size 8 lists es
 outside size lists count es e (inl z) = rw (e, z)
@@ -71,7 +64,7 @@ pub returns-then-shares_fit : goal.returns-then-shares_fit
 returns-then-shares_fit c =
     let a = c.args in
     let all = inside a.words.now a.size c.from-count.result (sym (c.from-count.ensures ∙ c.lists_of.ensures)) (λ z. omega arith) (omega arith) in
-    ap (λ (b : Bool). b && c.rest_zero.result) (sym c.if-shares_fit.true ∙ c.shares_fit.ensures) ∙ ap (λ (b : Bool). gather a.size (take c.from-count.result (entries_from a.words.now)) 0 && b) (c.rest_zero.ensures ∙ rest a.words.now c.from-count.result (8 - c.from-count.result) (omega arith)) ∙ all
+    ap (λ (b : Bool). b && c.rest_zero.result) (sym c.if-shares_fit.true ∙ c.shares_fit.ensures) ∙ ap (λ (b : Bool). gather a.size (take c.from-count.result (entries_from a.words.now)) 0 && b) c.rest_zero.ensures ∙ all
 
 pub returns-else-shares_fit : goal.returns-else-shares_fit
 returns-else-shares_fit c =

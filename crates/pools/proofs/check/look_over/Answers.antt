@@ -15,7 +15,7 @@ use Rattle.engines.specs.Check.{null_slot_zero}
 use Rattle.engines.proofs.Stages.{met_none}
 use Rattle.xor.specs.Engine.{xor}
 use Rattle.pools.proofs.Handed.{lacks_fit}
-use Rattle.pools.proofs.Told.{look_nine, look_ten, look_past}
+use Rattle.pools.proofs.Told.{look_nine, look_ten, look_past, told_whole}
 use Rattle.pools.proofs.check.look_over.Goals.{then-lists_of-eq0-via-then-lists_of-eq0, then-lists_of-eq0-via-else-lists_of-eq0+then-not-keeps_rules}
 use Rattle.pools.proofs.check.look_over.Goals as goal
 
@@ -44,12 +44,15 @@ returns-then-lists_of-eq0 c =
       | then-lists_of-eq0-via-then-lists_of-eq0 w ↦ no_lists a.words.now _ (sym c.lists_of.ensures ∙ w.if-lists_of-eq0.true)
       | then-lists_of-eq0-via-else-lists_of-eq0+then-not-keeps_rules w ↦ sym w.keeps_rules.ensures ∙ w.if-not-keeps_rules.true
     ] in
-    rw c.word_of.ensures (look_nine a.links.now a.values.now (eight (book_from a.words.now)) c.requires.0 c.into.result c.into.ensures broken)
+    let b = told_whole c.word_of.ensures.told c.word_of.ensures.alone (look_nine a.links.now a.values.now (eight (book_from a.words.now)) c.requires.0 c.into.result c.into.ensures broken) in
+    record { seen = b.0; alone = b.1 }
 
 pub returns-then-not-null_slot_zero : goal.returns-then-not-null_slot_zero
 returns-then-not-null_slot_zero c =
     let a = c.args in
-    rw c.word_of-then-not-null_slot_zero.ensures (look_ten a.links.now a.values.now (eight (book_from a.words.now)) c.requires.0 (sym c.if-not-keeps_rules.ensures) _ c.into-then-not-null_slot_zero.ensures (sym (tested c.requires.0 c.if-not-null_slot_zero.ensures)))
+    let w = c.word_of-then-not-null_slot_zero.ensures in
+    let b = told_whole w.told w.alone (look_ten a.links.now a.values.now (eight (book_from a.words.now)) c.requires.0 (sym c.if-not-keeps_rules.ensures) _ c.into-then-not-null_slot_zero.ensures (sym (tested c.requires.0 c.if-not-null_slot_zero.ensures))) in
+    record { seen = b.0; alone = b.1 }
 
 pub find_over-requires : goal.find_over-requires
 find_over-requires c =
@@ -70,5 +73,7 @@ word_of-requires-2 c =
 pub returns : goal.returns
 returns c =
     let a = c.args in
-    rw c.word_of-2.ensures (look_past a.links.now a.values.now (eight (book_from a.words.now)) c.requires.0 (sym c.if-not-keeps_rules.ensures) c.find_over.result
-    (rw (all_links c.requires.0, all_values c.requires.0) at c.find_over.ensures))
+    let w = c.word_of-2.ensures in
+    let b = told_whole w.told w.alone (look_past a.links.now a.values.now (eight (book_from a.words.now)) c.requires.0 (sym c.if-not-keeps_rules.ensures) c.find_over.result
+    (rw (all_links c.requires.0, all_values c.requires.0) at c.find_over.ensures)) in
+    record { seen = b.0; alone = b.1 }

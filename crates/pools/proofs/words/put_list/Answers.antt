@@ -5,6 +5,7 @@ use Prim.Native.Nat.{ℕ, ◌+◌, ◌*◌, ◌≤◌, ◌<◌}
 use native.Mathlib.Omega.{arith}
 use lib.ListN.{length, get_or, set}
 use lib.Seq.{get_or-set_other, set-get_or, set_out}
+use Rattle.std.proofs.lemmas.List.{set_comm}
 use Rattle.books.specs.declared.Entry.{Entry}
 use Rattle.books.specs.Book.{zero_entry, eight, book_of, entry_at, words_of}
 use Rattle.books.specs.Words.{entry_from, entries_from, book_from}
@@ -68,7 +69,8 @@ returns c =
     let a = c.args in
     let words = a.words.now in
     let idle = a.chains.idle in
-    elim c.if-list-lt8.branch [
+    set_comm c.if-list-lt8.words 42 41 idle.count idle.head (λ e. omega (arith, e))
+    ∙ elim c.if-list-lt8.branch [
       | then-list-lt8 w ↦
           ap (λ (ws : List ℕ). set (set ws 41 idle.head) 42 idle.count) (w.words-is ∙ ap (λ (k : ℕ). list_put words k a.chains) w.from-k.ensures)
           ∙ five_put words a.chains c.told-words a.list w.if-list-lt8.true
