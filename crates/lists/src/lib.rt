@@ -206,7 +206,7 @@ pub fn pop(links: &mut [u16], values: &mut [u64], end: End, chains: Chains) -> O
         return None;
     }
     let idle = slots::release(links, values, gone, chains.idle)?;
-    links[usize::from(near)] ^= gone;
+    links[rules::wide(near)] ^= gone;
     let list = with_near(end, near, chains.list);
     Some((value, Chains { list, idle }))
 }

@@ -15,8 +15,8 @@ pub fn size_fits(size: usize) -> bool
     (2..=Book::LARGEST).contains(&size)
 }
 
-// A 16-bit number as an index. The code says `usize::from` itself; this stays for what speaks of it, the edit `index_halved` and G6 of
-// docs/CONTRACTS.md.
+// A 16-bit number as an index. The walks and the lists widen a slot's number by it and not by `usize::from`: G6 of docs/CONTRACTS.md names
+// it, and its edit `index_halved` breaks what they do.
 pub fn wide(x: u16) -> usize
     ensures { (result ≡ x) × (result < 65536) }
 {

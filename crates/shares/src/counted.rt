@@ -23,7 +23,7 @@ pub(crate) fn push(
     ensures stays { IsNone result → (links.new ≡ links.old) × (values.new ≡ values.old) }
     ensures made { pushed_as (outcome (push_step_by chains result) links.new values.new) ≡ if_made (word_up chains.list.length) (word_down chains.idle.count) (pushed_as (push_of end links.old values.old chains.list chains.idle value)) }
 {
-    let after = lists::push(links, values, end, chains, value)?;
+    let after = push_at(links, values, end, chains, value)?;
     Some(Chains {
         list: Entry {
             length: chains.list.length.wrapping_add(1),
@@ -48,7 +48,7 @@ pub(crate) fn pop(
     ensures stays { IsNone result → (links.new ≡ links.old) × (values.new ≡ values.old) }
     ensures made { popped_as (outcome (pop_step_by chains result) links.new values.new) ≡ if_made (word_down chains.list.length) (word_up chains.idle.count) (popped_as (pop_of end links.old values.old chains.list chains.idle)) }
 {
-    let (value, after) = lists::pop(links, values, end, chains)?;
+    let (value, after) = pop_at(links, values, end, chains)?;
     let list = Entry {
         length: chains.list.length.wrapping_sub(1),
         ..after.list
@@ -58,4 +58,30 @@ pub(crate) fn pop(
         ..after.idle
     };
     Some((value, Chains { list, idle }))
+}
+
+// The step of the list at an end, by the name that 000 gives it.
+fn push_at(
+    links: &mut [u16],
+    values: &mut [u64],
+    end: End,
+    chains: Chains,
+    value: u64,
+) -> Option<Chains>
+    ensures { outcome (push_step_by chains result) links.new values.new ≡ push_of end links.old values.old chains.list chains.idle value }
+{
+    match end {
+        End::Front => lists::push_front(links, values, chains, value),
+        End::Back => lists::push_back(links, values, chains, value),
+    }
+}
+
+#[inline(always)]
+fn pop_at(links: &mut [u16], values: &mut [u64], end: End, chains: Chains) -> Option<(u64, Chains)>
+    ensures { outcome (pop_step_by chains result) links.new values.new ≡ pop_of end links.old values.old chains.list chains.idle }
+{
+    match end {
+        End::Front => lists::pop_front(links, values, chains),
+        End::Back => lists::pop_back(links, values, chains),
+    }
 }

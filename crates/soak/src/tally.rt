@@ -1,7 +1,23 @@
-// What is counted and written: the table of calls and numbers, and the differences.
+// What is counted and written: the table of calls and numbers, and the differences. Its numbers are written by `digits`, as those of the
+// demonstration and of the notices are.
 use crate::book::{Answer, Book};
 use crate::kinds::Call;
 use std::{fmt, io};
+
+// A number in decimal digits.
+#[derive(Clone, Copy)]
+struct Digits(u64);
+
+impl fmt::Display for Digits {
+    fn fmt<W: fmt::Write>(&self, f: &mut fmt::Formatter<W>) -> fmt::Result {
+        let mut room = [0u8; 20];
+        let count = digits::write(&mut room, 0, self.0);
+        for digit in room.iter().take(count) {
+            f.write_char(char::from(*digit))?;
+        }
+        Ok(())
+    }
+}
 
 // Which number each call can give, by documents 01 and 02: eighteen digits for each call, from number 0 to number 17, 1 where the call
 // can give it.
@@ -54,13 +70,11 @@ pub(crate) struct About<'a> {
 
 impl fmt::Display for About<'_> {
     fn fmt<W: fmt::Write>(&self, f: &mut fmt::Formatter<W>) -> fmt::Result {
-        let About {
-            calls,
-            size,
-            row,
-            list,
-            held_to,
-        } = *self;
+        let held_to = self.held_to;
+        let calls = Digits(self.calls);
+        let size = Digits(self.size.into());
+        let row = Digits(self.row as u64);
+        let list = Digits(self.list.into());
         write!(
             f,
             "difference at call {calls} on slots {size}, kind {row}, list {list}, held to {held_to}"
@@ -71,7 +85,7 @@ impl fmt::Display for About<'_> {
 impl fmt::Display for Row {
     fn fmt<W: fmt::Write>(&self, f: &mut fmt::Formatter<W>) -> fmt::Result {
         for times in &self.times {
-            write!(f, " {times}")?;
+            write!(f, " {}", Digits(*times))?;
         }
         Ok(())
     }
@@ -171,19 +185,17 @@ impl Tally {
             .zip(MAY_GIVE)
             .filter(|(row, may_give)| row.is_right(may_give))
             .count();
+        let right = Digits(right as u64);
         println!(rt; "calls that gave every number of their row, and no other: {right} of 14")
     }
 
     pub(crate) fn write(&self, rt: &impl Print) -> io::Result<()> {
-        let Tally {
-            calls,
-            damaged,
-            unsound,
-            taken_back,
-            put_back,
-            differences,
-            ..
-        } = *self;
+        let calls = Digits(self.calls);
+        let damaged = Digits(self.damaged);
+        let unsound = Digits(self.unsound);
+        let taken_back = Digits(self.taken_back);
+        let put_back = Digits(self.put_back);
+        let differences = Digits(self.differences);
         self.write_table(rt)?;
         println!(rt; "calls {calls}")?;
         println!(rt; "damaged pools {damaged}, not sound {unsound}")?;

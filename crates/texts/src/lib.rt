@@ -37,7 +37,7 @@ fn text(number: u16) -> &'static [u8]
         15 => b"a list is over its limit, or the shares are not covered",
         16 => b"a stored count is wrong",
         17 => b"a quick call cannot trust the book or a slot",
-        _ => b"this version does not know the number",
+        18..=65535 => b"this version does not know the number",
     }
 }
 

@@ -12,23 +12,28 @@ use books::{Book, Free};
 pub fn clear(links: &mut [u16], values: &mut [u64], start: u16, free: Free, count: usize) -> Free
     ensures { outcome result links.new values.new ≡ clear_along count links.old values.old null_slot start free }
 {
-    let mut slot = usize::from(start);
+    let mut slot = rules::wide(start);
     let mut last: usize = 0;
-    let mut head = usize::from(free.head);
-    let size = links.len().min(values.len());
-    for _ in 0..count {
+    let mut head = rules::wide(free.head);
+    let mut left = count;
+    let size = crate::least(links.len(), values.len());
+    while 0 < left {
         if size <= slot {
-            break;
+            return Free {
+                head: head as u16,
+                count: free.count,
+            };
         }
-        let next = usize::from(links[slot]) ^ last;
+        let next = rules::wide(links[slot]) ^ last;
         links[slot] = head as u16;
         values[slot] = Book::WIPE;
         head = slot;
         last = slot;
         slot = next;
+        left -= 1;
     }
     Free {
         head: head as u16,
-        ..free
+        count: free.count,
     }
 }

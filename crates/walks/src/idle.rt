@@ -20,15 +20,15 @@ pub(crate) fn walk_idle(links: &[u16], values: &[u64], met: &mut [u8], free: Fre
     if links.len() != values.len() || !crate::met::walkable(links, met) {
         return refused();
     }
-    crate::met::mark(met, 0);
-    let mut slot = usize::from(free.head);
+    crate::met::mark_null(met);
+    let mut slot = rules::wide(free.head);
     let mut length: usize = 0;
     let mut unlike: u64 = 0;
     while !crate::met::is_met(met, slot) {
         crate::met::mark(met, slot);
         unlike |= values[slot] ^ Book::WIPE;
         length += 1;
-        slot = usize::from(links[slot]);
+        slot = rules::wide(links[slot]);
     }
     ended(links, values, met, free, slot, length, unlike)
 }
@@ -105,5 +105,5 @@ fn gather(values: &[u64], slot: u16, least: u16) -> u16
 fn cell_or<T: Copy>(cells: &[T], slot: u16, none: T) -> T
     ensures { result ≡ get_or cells.now slot none }
 {
-    cells.get(usize::from(slot)).copied().unwrap_or(none)
+    cells.get(rules::wide(slot)).copied().unwrap_or(none)
 }

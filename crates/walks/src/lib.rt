@@ -6,3 +6,15 @@ mod idle;
 mod met;
 pub mod reads;
 pub mod walk;
+
+ghost use Rattle.std.specs.Prelude.{◌≡◌, ◌⊎◌, ◌≤◌};
+
+// The lesser of the two. By `min` the compiler compares them in every call, though they are equal there.
+fn least(a: usize, b: usize) -> usize
+    ensures { (result ≤ a) × (result ≤ b) × ((result ≡ a) ⊎ (result ≡ b)) }
+{
+    if a < b {
+        return a;
+    }
+    b
+}

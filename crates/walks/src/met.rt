@@ -11,7 +11,7 @@ pub(crate) fn is_met(met: &[u8], slot: usize) -> bool
     met.len() <= slot || met[slot] != 0
 }
 
-// The slot is met from now on. The null slot is too, while a walk goes.
+// The slot is met from now on.
 #[tactic(auto, unfolding(shapes::specs::Met::mark_of))]
 pub(crate) fn mark(met: &mut [u8], slot: usize)
     requires { HasPlace met.old slot }
@@ -20,7 +20,16 @@ pub(crate) fn mark(met: &mut [u8], slot: usize)
     met[slot] = 1;
 }
 
-// The null slot's mark is taken away when the walk has ended.
+// The null slot is marked while a walk goes.
+#[tactic(auto, unfolding(shapes::specs::Met::mark_of))]
+pub(crate) fn mark_null(met: &mut [u8])
+    requires { HasPlace met.old null_slot }
+    ensures { met.new ≡ mark_of met.old null_slot }
+{
+    met[0] = 1;
+}
+
+// Its mark is taken away when the walk has ended.
 pub(crate) fn unmark_null(met: &mut [u8])
     requires { HasPlace met.old null_slot }
     ensures { met.new ≡ unmarked met.old }

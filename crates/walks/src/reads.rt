@@ -28,8 +28,8 @@ pub fn read(links: &[u16], values: &[u64], start: u16, buffer: &mut [u64], at: u
 fn fill(links: &[u16], values: &[u64], start: u16, out: &mut [u64]) -> usize
     ensures { Filled (values_along (xor.onward End.Front links.now) (length links.now) values.now (length out.old) null_slot start) out.old result out.new }
 {
-    let size = links.len().min(values.len());
-    let mut slot = usize::from(start);
+    let size = crate::least(links.len(), values.len());
+    let mut slot = rules::wide(start);
     let mut previous: usize = 0;
     let mut count: usize = 0;
     while count + 1 < out.len() {
@@ -74,5 +74,5 @@ fn copy_value(
     ensures { (result ≡ bit_xor (cell links.now slot) before) × (out.new ≡ set out.old place (cell values.now slot)) }
 {
     out[place] = values[slot];
-    usize::from(links[slot]) ^ before
+    rules::wide(links[slot]) ^ before
 }

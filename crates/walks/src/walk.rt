@@ -41,8 +41,8 @@ fn walk_along(links: &[u16], met: &mut [u8], head: u16) -> LiveWalk
             length: 0,
         };
     }
-    crate::met::mark(met, 0);
-    let mut slot = usize::from(head);
+    crate::met::mark_null(met);
+    let mut slot = rules::wide(head);
     let mut last: usize = 0;
     let mut length: usize = 0;
     while !crate::met::is_met(met, slot) {
@@ -63,7 +63,7 @@ fn pass(links: &[u16], met: &mut [u8], slot: usize, before: usize) -> usize
     ensures { (result ≡ bit_xor (cell links.now slot) before) × (met.new ≡ mark_of met.old slot) }
 {
     crate::met::mark(met, slot);
-    usize::from(links[slot]) ^ before
+    rules::wide(links[slot]) ^ before
 }
 
 // The walk stopped at `slot`, after `many` slots, of which `last` was the last. The null slot's mark is taken away.

@@ -29,20 +29,20 @@ returns-then-links-values c =
       | then-links-values-via-else-links-values+then-not-walkable w ↦ idle_unwalkable c.refused.ensures w.if-links-values.false (sym w.walkable.ensures ∙ w.if-not-walkable.true)
     ]
 
-pub mark-requires : goal.mark-requires
-mark-requires c = null_place _ _ (sym c.if-not-walkable.ensures)
+pub mark_null-requires : goal.mark_null-requires
+mark_null-requires c = null_place _ _ (sym c.if-not-walkable.ensures)
 
 pub loop-met-init : goal.loop-met-init
 loop-met-init c =
     let links = c.args.links.now in (
       [],
-      guarded_start (xor.idle_onward links) (xor.idle_fits links) (length links) c.args.met.now c.from-slot.result (sym c.if-not-walkable.ensures) c.mark.ensures,
-      firsts_start links c.from-slot.result,
+      guarded_start (xor.idle_onward links) (xor.idle_fits links) (length links) c.args.met.now c.wide-slot.result (sym c.if-not-walkable.ensures) c.mark_null.ensures,
+      firsts_start links c.wide-slot.result,
       λ h. refl,
     )
 
-pub mark-requires-in-loop-met : goal.mark-requires-in-loop-met
-mark-requires-in-loop-met c = (guarded_place c.loop-met.invariant.1 (sym c.loop-met-test.ensures)).1
+pub mark-requires : goal.mark-requires
+mark-requires c = (guarded_place c.loop-met.invariant.1 (sym c.loop-met-test.ensures)).1
 
 pub offset_bounds-values-slot : goal.offset_bounds-values-slot
 offset_bounds-values-slot c = omega (arith, (guarded_place c.loop-met.invariant.1 (sym c.loop-met-test.ensures)).0, c.if-links-values.false)
@@ -60,26 +60,26 @@ pub bounds-links-slot : goal.bounds-links-slot
 bounds-links-slot c = (guarded_place c.loop-met.invariant.1 (sym c.loop-met-test.ensures)).0
 
 pub loop-met-smaller : goal.loop-met-smaller
-loop-met-smaller c = omega (arith, ap unmet c.mark-in-loop-met.ensures, unmet_mark c.loop-met.met c.loop-met.slot (sym c.loop-met-test.ensures))
+loop-met-smaller c = omega (arith, ap unmet c.mark.ensures, unmet_mark c.loop-met.met c.loop-met.slot (sym c.loop-met-test.ensures))
 
 pub loop-met-preserved : goal.loop-met-preserved
 loop-met-preserved c =
     let (passed, g, f, u) = c.loop-met.invariant in (
       passed ++ c.loop-met.slot ∷ [],
-      guarded_on g (sym c.loop-met-test.ensures) refl c.mark-in-loop-met.ensures c.from-slot-in-loop-met.ensures,
-      firsts_on c.args.links.now c.from-slot.result passed c.loop-met.slot c.loop-met.length f c.from-slot-in-loop-met.ensures,
+      guarded_on g (sym c.loop-met-test.ensures) refl c.mark.ensures c.wide-slot-in-loop-met.ensures.0,
+      firsts_on c.args.links.now c.wide-slot.result passed c.loop-met.slot c.loop-met.length f c.wide-slot-in-loop-met.ensures.0,
       unlike_on c.args.values.now passed c.loop-met.slot c.loop-met.unlike u,
     )
 
 pub ended-requires : goal.ended-requires
 ended-requires c =
-    (guarded_some c.loop-met.invariant.1, λ h. ap (λ xs. unwiped_from c.args.values.now xs null_slot) (firsts c.args.links.now c.loop-met.slot c.loop-met.length c.from-slot.ensures c.loop-met.invariant.2) ∙ c.loop-met.invariant.3 h)
+    (guarded_some c.loop-met.invariant.1, λ h. ap (λ xs. unwiped_from c.args.values.now xs null_slot) (firsts c.args.links.now c.loop-met.slot c.loop-met.length c.wide-slot.ensures.0 c.loop-met.invariant.2) ∙ c.loop-met.invariant.3 h)
 
 pub returns : goal.returns
 returns c =
     idle_walked c.if-links-values.false
-    (guarded_from (sym c.if-not-walkable.ensures) c.mark.ensures c.from-slot.ensures c.loop-met.invariant.1)
-    (firsts c.args.links.now c.loop-met.slot c.loop-met.length c.from-slot.ensures c.loop-met.invariant.2)
+    (guarded_from (sym c.if-not-walkable.ensures) c.mark_null.ensures c.wide-slot.ensures.0 c.loop-met.invariant.1)
+    (firsts c.args.links.now c.loop-met.slot c.loop-met.length c.wide-slot.ensures.0 c.loop-met.invariant.2)
     (sym c.loop-met-test.ensures)
     c.ended.ensures.0
     c.ended.ensures.1

@@ -26,13 +26,13 @@ passed_one links {slot = slot} g l m (e, d) = guarded_on g m refl d (e ∙ ap (�
 passed_last : (passed : List ℕ) (slot : ℕ) → slot ≡ last_or null_slot (passed ++ slot ∷ [])
 passed_last passed slot = sym (last-append null_slot passed (slot ∷ []))
 
-pub mark-requires : goal.mark-requires
-mark-requires c = null_place _ _ (sym c.if-not-walkable.ensures)
+pub mark_null-requires : goal.mark_null-requires
+mark_null-requires c = null_place _ _ (sym c.if-not-walkable.ensures)
 
 pub loop-met-init : goal.loop-met-init
 loop-met-init c =
     let links = c.args.links.now in
-    ([], guarded_start (xor.onward Front links) (xor.fits links) (length links) c.args.met.now c.from-slot.result (sym c.if-not-walkable.ensures) c.mark.ensures, refl)
+    ([], guarded_start (xor.onward Front links) (xor.fits links) (length links) c.args.met.now c.wide-slot.result (sym c.if-not-walkable.ensures) c.mark_null.ensures, refl)
 
 pub pass-next-requires : goal.pass-next-requires
 pass-next-requires c = guarded_place c.loop-met.invariant.1 (sym c.loop-met-test.ensures)
@@ -46,7 +46,7 @@ ended-requires c = guarded_some (passed_one _ c.loop-met.invariant.1 c.loop-met.
 pub returns-then-is_met : goal.returns-then-is_met
 returns-then-is_met c =
     let g = passed_one _ c.loop-met.invariant.1 c.loop-met.invariant.2 (sym c.loop-met-test.ensures) c.pass-next.ensures in
-    live_walked (guarded_from (sym c.if-not-walkable.ensures) c.mark.ensures c.from-slot.ensures g)
+    live_walked (guarded_from (sym c.if-not-walkable.ensures) c.mark_null.ensures c.wide-slot.ensures.0 g)
     (passed_last c.loop-met.invariant.0 c.loop-met.slot)
     (sym c.if-is_met.ensures)
     c.ended.ensures.0
@@ -84,7 +84,7 @@ ended-requires-2 c = guarded_some c.loop-met.invariant.1
 
 pub returns : goal.returns
 returns c =
-    live_walked (guarded_from (sym c.if-not-walkable.ensures) c.mark.ensures c.from-slot.ensures c.loop-met.invariant.1)
+    live_walked (guarded_from (sym c.if-not-walkable.ensures) c.mark_null.ensures c.wide-slot.ensures.0 c.loop-met.invariant.1)
     c.loop-met.invariant.2
     (sym c.loop-met-test.ensures)
     c.ended-2.ensures.0
